@@ -1,0 +1,5 @@
+pub mod Adding
+pub mod Examples
+pub mod Samples
+pub mod Theorems
+pub mod Typed

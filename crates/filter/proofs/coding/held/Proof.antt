@@ -1,0 +1,13 @@
+-- `filter::coding::held` meets its contract: each component is there exactly where its type is not 0.
+-- Assumes nothing.
+use Rattle.filter.specs.Coding.{held}
+use borrow.Author.Needs.{needs}
+use Rattle.filter.proofs.coding.held.Statement.{statement}
+use Rattle.filter.proofs.coding.held.Tie as tie
+
+pub held-spec : {M : Type 1} → statement M
+unfolding held
+held-spec =
+    tie.close
+    (tie.spec
+    (λ c κs. search needs) (λ c κs. search needs) (λ c κs. search needs) (λ c κs. search needs) (λ c κs. search needs) (λ c κs. search needs) (λ c κs. search needs) (λ c. cc))

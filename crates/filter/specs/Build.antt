@@ -1,0 +1,96 @@
+-- "A filter is built up one component at a time, each addition handing the filter back."
+use Prim.Native.Nat.{ℕ}
+use mathlib.Core.Bool.{Bool, false, _||_}
+use mathlib.Core.List.{List, [], _∷_}
+use lib.Dec.{ltb}
+use Rattle.laws.specs.Says.{pick}
+use Rattle.filter.specs.declared.component.Address.{Address}
+use Rattle.filter.specs.declared.component.RemoteAddress.the-variants.{Absent as noAddress, V4, V6}
+use Rattle.filter.specs.declared.component.Protocol.the-variants.{Absent as noProtocol, Is as isProtocol}
+use Rattle.filter.specs.declared.component.Port.the-variants.{Absent as noPort, Is as isPort, Range}
+use Rattle.filter.specs.declared.component.Index.the-variants.{Absent as noIndex, Is as isIndex}
+use Rattle.filter.specs.declared.component.Class.the-variants.{Absent as noClass, Masked}
+use Rattle.filter.specs.declared.component.Label.the-variants.{Absent as noLabel, Is as isLabel}
+use Rattle.filter.specs.declared.component.Filter.{Filter}
+use Rattle.filter.specs.Component.{largestLabel, addressType, protocolType, localType, remoteType, indexType, classType, labelType, excludes}
+
+pub data Component : Type 0 where
+  ipv4Remote : (address mask : ℕ) → Component
+  ipv6Remote : (address mask : Address) → Component
+  protocol : ℕ → Component
+  localPort : ℕ → Component
+  localRange : (low high : ℕ) → Component
+  remotePort : ℕ → Component
+  remoteRange : (low high : ℕ) → Component
+  index : ℕ → Component
+  class : (class mask : ℕ) → Component
+  label : ℕ → Component
+
+-- the first column of document 01's table
+abbrev pub typeOf : Component → ℕ
+typeOf (ipv4Remote address mask) = 0x10
+typeOf (ipv6Remote address mask) = 0x20
+typeOf (protocol x) = 0x30
+typeOf (localPort x) = 0x40
+typeOf (localRange low high) = 0x41
+typeOf (remotePort x) = 0x50
+typeOf (remoteRange low high) = 0x51
+typeOf (index x) = 0x60
+typeOf (class x mask) = 0x70
+typeOf (label x) = 0x80
+
+-- the filter without a component
+abbrev pub bare : ℕ → ℕ → Filter
+bare precedence direction =
+    record {
+      precedence = precedence;
+      direction = direction;
+      address = noAddress;
+      protocol = noProtocol;
+      local = noPort;
+      remote = noPort;
+      index = noIndex;
+      class = noClass;
+      label = noLabel;
+    }
+
+-- the filter with the component in its place, whatever stood there
+abbrev pub put : Component → Filter → Filter
+put (ipv4Remote address mask) f = record { precedence = f .precedence; direction = f .direction; address = V4 address mask; protocol = f .protocol; local = f .local; remote = f .remote; index = f .index; class = f .class; label = f .label }
+put (ipv6Remote address mask) f = record { precedence = f .precedence; direction = f .direction; address = V6 address mask; protocol = f .protocol; local = f .local; remote = f .remote; index = f .index; class = f .class; label = f .label }
+put (protocol x) f = record { precedence = f .precedence; direction = f .direction; address = f .address; protocol = isProtocol x; local = f .local; remote = f .remote; index = f .index; class = f .class; label = f .label }
+put (localPort x) f = record { precedence = f .precedence; direction = f .direction; address = f .address; protocol = f .protocol; local = isPort x; remote = f .remote; index = f .index; class = f .class; label = f .label }
+put (localRange low high) f = record { precedence = f .precedence; direction = f .direction; address = f .address; protocol = f .protocol; local = Range low high; remote = f .remote; index = f .index; class = f .class; label = f .label }
+put (remotePort x) f = record { precedence = f .precedence; direction = f .direction; address = f .address; protocol = f .protocol; local = f .local; remote = isPort x; index = f .index; class = f .class; label = f .label }
+put (remoteRange low high) f = record { precedence = f .precedence; direction = f .direction; address = f .address; protocol = f .protocol; local = f .local; remote = Range low high; index = f .index; class = f .class; label = f .label }
+put (index x) f = record { precedence = f .precedence; direction = f .direction; address = f .address; protocol = f .protocol; local = f .local; remote = f .remote; index = isIndex x; class = f .class; label = f .label }
+put (class x mask) f = record { precedence = f .precedence; direction = f .direction; address = f .address; protocol = f .protocol; local = f .local; remote = f .remote; index = f .index; class = Masked x mask; label = f .label }
+put (label x) f = record { precedence = f .precedence; direction = f .direction; address = f .address; protocol = f .protocol; local = f .local; remote = f .remote; index = f .index; class = f .class; label = isLabel x }
+
+-- "the type is held already, is excluded by one held"
+unfoldable pub excluded : Filter → ℕ → Bool
+excluded f t =
+    excludes t (addressType (f .address)) || excludes t (protocolType (f .protocol)) || excludes t (localType (f .local)) || excludes t (remoteType (f .remote))
+    || excludes t (indexType (f .index)) || excludes t (classType (f .class)) || excludes t (labelType (f .label))
+
+-- "or is a flow label above 1048575"
+abbrev pub tooLarge : Component → Bool
+tooLarge (ipv4Remote address mask) = false
+tooLarge (ipv6Remote address mask) = false
+tooLarge (protocol x) = false
+tooLarge (localPort x) = false
+tooLarge (localRange low high) = false
+tooLarge (remotePort x) = false
+tooLarge (remoteRange low high) = false
+tooLarge (index x) = false
+tooLarge (class x mask) = false
+tooLarge (label x) = ltb largestLabel x
+
+-- "it comes back unchanged where ..": one addition
+unfoldable pub added : Filter → Component → Filter
+added f c = pick (tooLarge c || excluded f (typeOf c)) f (put c f)
+
+-- any sequence of additions
+unfoldable pub built : Filter → List Component → Filter
+built f [] = f
+built f (c ∷ cs) = built (added f c) cs

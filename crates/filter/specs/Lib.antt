@@ -1,0 +1,6 @@
+pub mod Component
+pub mod Coding
+pub mod Build
+pub mod Fit
+pub mod Ranges
+pub mod Fittable
