@@ -1,3 +1,12 @@
+pub mod Index
+pub mod Lists
+pub mod Loops
+pub mod Marks
 pub mod Masks
+pub mod Octets
+pub mod Parts
+pub mod Says
+pub mod Repeats
+pub mod Tables
 pub mod Tests
 pub mod Typed

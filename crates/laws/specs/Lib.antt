@@ -1,2 +1,5 @@
+pub mod Index
+pub mod Lists
 pub mod Numbers
+pub mod Octets
 pub mod Says

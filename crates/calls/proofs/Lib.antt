@@ -1,0 +1,9 @@
+pub mod Examples
+pub mod Typed
+pub mod Rows
+pub mod Views
+pub mod Kept
+pub mod Whole
+pub mod Laying
+pub mod Theorems
+pub mod Followers

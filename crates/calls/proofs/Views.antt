@@ -1,0 +1,19 @@
+-- What stands where in a table that is made from a view.
+use mathlib.Core.Path.{_≡_, _∙_, ap}
+use Prim.Native.Nat.{ℕ, _<_}
+use Rattle.laws.proofs.Index.{tab-at}
+use Rattle.table.specs.declared.bearer.Bearer.{Bearer}
+use Rattle.table.specs.Bearers.{bearerCount, placeCount, emptyFilter, noBearer, bearerAt, inRow, roleAt, transactionAt, filterAt, View, bearerOf, build}
+
+module _ (v : View) (i : ℕ) (l : i < bearerCount) where
+  pub bearer-built : bearerAt (build v) i ≡ bearerOf v i
+  bearer-built = tab-at (bearerOf v) bearerCount i noBearer l
+
+  pub role-built : roleAt (build v) i ≡ v .role i
+  role-built = ap (λ (b : Bearer). b .role) bearer-built
+
+  pub transaction-built : transactionAt (build v) i ≡ v .transaction i
+  transaction-built = ap (λ (b : Bearer). b .transaction) bearer-built
+
+  pub filter-built : (j : ℕ) → j < placeCount → filterAt (build v) i j ≡ v .filter i j
+  filter-built j m = ap (λ (b : Bearer). inRow (b .row) j) bearer-built ∙ tab-at (v .filter i) placeCount j emptyFilter m

@@ -1,0 +1,372 @@
+-- "Well formed in, well formed out": every call takes a well-formed table to a well-formed table, every number in its type's range.
+use mathlib.Core.Path.{_≡_, refl, sym, _∙_, ap, subst}
+use mathlib.Core.Bool.{Bool, true, false, _&&_, _||_}
+use mathlib.Core.Logic.{⊎-elim}
+use mathlib.Core.List.{List}
+use Prim.Native.Nat.{ℕ, zero, suc, _^_, _<_, _≤_}
+use native.Mathlib.Omega.{arith}
+use lib.Dec.{eqb}
+use lib.ListN.{length, getD, replicate}
+use borrow.Author.Tests.{eq-eqb, eqb-false, ne-eqb, le-leb}
+use Rattle.laws.specs.Says.{pick}
+use Rattle.laws.specs.Index.{anyBelow, tab}
+use Rattle.laws.specs.Lists.{every, All, Each}
+use Rattle.laws.proofs.Index.{tab-length}
+use Rattle.laws.proofs.Loops.{every-at}
+use Rattle.laws.proofs.Tests.{both, neither}
+use Rattle.laws.proofs.Typed.{each-at}
+use Rattle.laws.proofs.Says.{never}
+use Rattle.filter.specs.declared.component.Filter.{Filter}
+use Rattle.filter.specs.Ranges.{FilterInRange}
+use Rattle.filter.specs.Fittable.{placeFine}
+use Rattle.element.specs.declared.answer.SetOperation.{SetOperation}
+use Rattle.element.specs.declared.answer.BareOperation.the-variants.{DeleteTft, NoOperation}
+use Rattle.element.specs.declared.answer.Answer.{Answer as ReadAnswer}
+use Rattle.element.specs.declared.answer.Answer.the-variants.{Filters, Identifiers, Bare, Refused as readRefused}
+use Rattle.element.specs.Numbers.{numberOf}
+use Rattle.element.specs.Read.{readElement}
+use Rattle.element.specs.Write.{rowGiven, givenBy, given}
+use Rattle.element.specs.Meaning.{Octet}
+use Rattle.element.proofs.Given.{element-given, row-distinct, read-in-range}
+use Rattle.table.specs.declared.bearer.Role.{Role}
+use Rattle.table.specs.declared.bearer.Role.the-variants.{Idle, Default, Dedicated}
+use Rattle.table.specs.declared.bearer.Table.{Table}
+use Rattle.table.specs.Bearers.{firstIdentity, lastIdentity, bearerCount, placeCount, lastTransaction, inRange, indexOf, emptyFilter, noBearer, inRow, roleAt, transactionAt, filterAt, View, view, bearerOf, build, isIdle, isDefault, isDedicated, roleOf, connectionAt}
+use Rattle.table.specs.Ranges.{RoleInRange, BearerInRange, TableInRange}
+use Rattle.table.specs.WellFormed.{wellFormed, Well, WellFormed}
+use Rattle.table.proofs.Meaning.{Fine, idle-says, default-says, range-says, place-says, well-says}
+use Rattle.calls.specs.declared.reply.Outcome.{Outcome}
+use Rattle.calls.specs.Steps.{opensAt, isOpen, ownerBelow, closedView, closed, startedView, openedView, cutView, ofConnection, isAt, droppedBy, dropped, deletedIn, deletedView, empties}
+use Rattle.calls.specs.Lay.{placedIn, laidView, released, laidBy, laidOn, laid}
+use Rattle.calls.specs.Modify.{creates, mismatch, operationOf, headFine, deleteFilters, deletedTft, modifiedBy, modifyRead, modifyNamed, modifyOf}
+use Rattle.calls.specs.Others.{free, activateDefaultOf, activatedBy, activateRead, activateNamed, activateDedicatedOf, deactivateOf, rejectedBy, rejectOf, startOf}
+use Rattle.calls.proofs.Views.{role-built}
+use Rattle.calls.proofs.Kept.{well-built, closed-well, well-started, not-open, ActiveDefault, well-default, well-dedicated, dropped-well, well-deleted, WellSet, laid-cases, active-at, laid-well}
+
+-- ---- The filters that are read may be laid
+row-well : (row : List Filter) → Each FilterInRange placeCount row → rowGiven row ≡ true → WellSet row
+unfolding rowGiven
+row-well row ok g =
+    record {
+      distinct = λ j l a b. row-distinct row g j l (within j a) (within l b);
+      zeroed = λ j l. fine j l .zeroed;
+      coded = λ j l. fine j l .coded;
+      fitted = λ j l. fine j l .fitted;
+    }
+  where
+    within : (j : ℕ) → j < placeCount → j < length row
+    within j l = let n = ok .count in omega arith
+
+    fine : (j : ℕ) → j < placeCount → Fine (inRow row j)
+    fine j l =
+        place-says (inRow row j) (each-at ok emptyFilter j l) .to
+        (every-at placeFine row (both (every placeFine row) _ (both _ _ g .0) .0) emptyFilter j (within j l))
+
+pub set-well : (xs : List ℕ) → All Octet xs → (operation : SetOperation) → readElement xs .answer ≡ Filters operation → WellSet (readElement xs .filters)
+unfolding given
+set-well xs octets operation q =
+    let e = readElement xs in
+    let g = subst (λ (a : ReadAnswer). givenBy a (e .filters) (e .marks) ≡ true) q (element-given xs octets (ap numberOf q)) in
+    row-well (e .filters) (read-in-range xs octets .filters) (both (rowGiven (e .filters)) _ g .0)
+
+-- ---- Ranges
+-- every number of a view in its type's range
+pub record ViewInRange (v : View) : Type 0 where
+  pub role : (i : ℕ) → i < bearerCount → RoleInRange (v .role i)
+  pub transaction : (i : ℕ) → i < bearerCount → v .transaction i < 2 ^ 8
+  pub filter : (i j : ℕ) → i < bearerCount → j < placeCount → FilterInRange (v .filter i j)
+
+module _ {A : Type 0} (P : A → Type 0) where
+  all-tab : (f : ℕ → A) (n : ℕ) → ((i : ℕ) → i < n → P (f i)) → All P (tab f n)
+  unfolding tab
+  all-tab f zero h = tt
+  all-tab f (suc n) h = (h 0 (omega arith), all-tab (λ i. f (suc i)) n (λ i l. h (suc i) (omega arith)))
+
+  each-tab : (f : ℕ → A) (n : ℕ) → ((i : ℕ) → i < n → P (f i)) → Each P n (tab f n)
+  each-tab f n h = record { count = tab-length f n; all = all-tab f n h }
+
+  picked : (b : Bool) (x y : A) → P x → P y → P (pick b x y)
+  picked true x y p q = p
+  picked false x y p q = q
+
+pub built-in-range : (v : View) → ViewInRange v → TableInRange (build v)
+built-in-range v r =
+    record {
+      bearers = each-tab BearerInRange (bearerOf v) bearerCount (λ i l.
+          record { role = r .role i l; transaction = r .transaction i l; row = each-tab FilterInRange (v .filter i) placeCount (λ j m. r .filter i j l m) });
+    }
+
+pub view-in-range : (t : Table) → TableInRange t → ViewInRange (view t)
+view-in-range t r =
+    record {
+      role = λ i l. each-at (r .bearers) noBearer i l .role;
+      transaction = λ i l. each-at (r .bearers) noBearer i l .transaction;
+      filter = λ i j l m. each-at (each-at (r .bearers) noBearer i l .row) emptyFilter j m;
+    }
+
+empty-in-range : FilterInRange emptyFilter
+empty-in-range =
+    record { precedence = omega arith; direction = omega arith; address = tt; protocol = tt; local = tt; remote = tt; index = tt; class = tt; label = tt }
+
+abbrev Small : ℕ → Type 0
+Small x = x < 2 ^ 8
+
+module _ (t : Table) (r : TableInRange t) where
+  closed-in-range : (x : ℕ) → ViewInRange (closedView t x)
+  closed-in-range x =
+      let v = view-in-range t r in
+      record {
+        role = v .role;
+        transaction = λ i l. picked Small (opensAt t x i) 0 (transactionAt t i) (omega arith) (v .transaction i l);
+        filter = v .filter;
+      }
+
+  started-in-range : (k x : ℕ) → x < 2 ^ 8 → ViewInRange (startedView t k x)
+  started-in-range k x s =
+      let v = view-in-range t r in
+      record { role = v .role; transaction = λ i l. picked Small (eqb i k) x (transactionAt t i) s (v .transaction i l); filter = v .filter }
+
+  opened-in-range : (k : ℕ) (role : Role) → RoleInRange role → ViewInRange (openedView t k role)
+  opened-in-range k role s =
+      let v = view-in-range t r in
+      record { role = λ i l. picked RoleInRange (eqb i k) role (roleAt t i) s (v .role i l); transaction = v .transaction; filter = v .filter }
+
+  cut-in-range : (gone : ℕ → Bool) → ViewInRange (cutView t gone)
+  cut-in-range gone =
+      let v = view-in-range t r in
+      record {
+        role = λ i l. picked RoleInRange (gone i) Idle (roleAt t i) tt (v .role i l);
+        transaction = λ i l. picked Small (gone i) 0 (transactionAt t i) (omega arith) (v .transaction i l);
+        filter = λ i j l m. picked FilterInRange (gone i) emptyFilter (filterAt t i j) empty-in-range (v .filter i j l m);
+      }
+
+  deleted-in-range : (k : ℕ) (marks : List Bool) → ViewInRange (deletedView t k marks)
+  unfolding deletedIn
+  deleted-in-range k marks =
+      let v = view-in-range t r in
+      record {
+        role = v .role;
+        transaction = v .transaction;
+        filter = λ i j l m. picked FilterInRange (eqb i k && getD marks j false) emptyFilter (filterAt t i j) empty-in-range (v .filter i j l m);
+      }
+
+  laid-in-range : (new : List Filter) (create : Bool) (k connection : ℕ) → Each FilterInRange placeCount new → ViewInRange (laidView new create t k connection)
+  unfolding placedIn
+  laid-in-range new create k connection n =
+      let v = view-in-range t r in
+      record {
+        role = v .role;
+        transaction = v .transaction;
+        filter = λ i j l m.
+            ⊎-elim (λ x. subst FilterInRange (sym (x .is)) (each-at n emptyFilter j m))
+            (⊎-elim (λ x. subst FilterInRange (sym (x .is)) (v .filter i j l m)) (λ z. subst FilterInRange (sym z) empty-in-range))
+            (laid-cases new create t k connection i j);
+      }
+
+-- ---- The steps
+-- a table that is well formed, every number in its type's range
+pub record Kept (s : Table) : Type 0 where
+  pub inRange : TableInRange s
+  pub well : WellFormed s
+
+kept-built : (v : View) → ViewInRange v → Well v → Kept (build v)
+kept-built v r w = record { inRange = built-in-range v r; well = well-built v w }
+
+module _ (t : Table) (kept : Kept t) where
+  closed-kept : (x : ℕ) → Kept (closed t x)
+  unfolding closed
+  closed-kept x =
+      record {
+        inRange = picked TableInRange (eqb x 0) t (build (closedView t x)) (kept .inRange) (built-in-range (closedView t x) (closed-in-range t (kept .inRange) x));
+        well = closed-well t (kept .well) x;
+      }
+
+  cut-in : (gone : ℕ → Bool) → TableInRange (build (cutView t gone))
+  cut-in gone = built-in-range (cutView t gone) (cut-in-range t (kept .inRange) gone)
+
+  dropped-kept : (bearer : ℕ) → Kept (dropped t bearer)
+  unfolding dropped
+  dropped-kept bearer = record { inRange = go (roleOf t bearer); well = dropped-well t (kept .well) bearer }
+    where
+      go : (r : Role) → TableInRange (droppedBy r t bearer)
+      go Idle = kept .inRange
+      go Default = cut-in (ofConnection t bearer)
+      go (Dedicated link) = cut-in (isAt (indexOf bearer))
+
+  deleted-kept : (k : ℕ) (marks : List Bool) → Kept (build (deletedView t k marks))
+  deleted-kept k marks = kept-built (deletedView t k marks) (deleted-in-range t (kept .inRange) k marks) (well-deleted t (kept .well) k marks)
+
+  laid-kept : (bearer : ℕ) (new : List Filter) (create : Bool) → (roleAt t (indexOf bearer) ≡ Idle → ⊥) → Each FilterInRange placeCount new → WellSet new
+      → Kept (laid t bearer new create .table)
+  unfolding laid laidOn
+  laid-kept bearer new create active n ok =
+      record { inRange = go (released new create t (indexOf bearer) (connectionAt t (indexOf bearer))); well = laid-well t bearer new create (kept .well) active ok }
+    where
+      go : (b : Bool) → TableInRange (laidBy b t bearer (connectionAt t (indexOf bearer)) new create .table)
+      go true = cut-in (ofConnection t (connectionAt t (indexOf bearer)))
+      go false =
+          built-in-range (laidView new create t (indexOf bearer) (connectionAt t (indexOf bearer)))
+          (laid-in-range t (kept .inRange) new create (indexOf bearer) (connectionAt t (indexOf bearer)) n)
+
+-- ---- The calls
+-- an outcome picked by a test
+by-test : (b : Bool) (x y : Outcome) → (b ≡ true → Kept (x .table)) → (b ≡ false → Kept (y .table)) → Kept (pick b x y .table)
+by-test true x y p q = p refl
+by-test false x y p q = q refl
+
+-- a free identity is in range, and its bearer idle
+abbrev Free : Table → ℕ → Type 0
+Free t bearer = (firstIdentity ≤ bearer) × (bearer ≤ lastIdentity) × (roleAt t (indexOf bearer) ≡ Idle)
+
+free-at : (t : Table) (bearer : ℕ) → free t bearer ≡ true → Free t bearer
+free-at t bearer = go (inRange bearer) refl
+  where
+    go : (b : Bool) → inRange bearer ≡ b → b && isIdle (pick b (roleAt t (indexOf bearer)) Idle) ≡ true → Free t bearer
+    go true e h = let r = range-says bearer .to e in (r .0, r .1, idle-says (roleAt t (indexOf bearer)) .to h)
+    go false e h = never h refl
+
+default-at : (t : Table) (link : ℕ) → isDefault (roleOf t link) ≡ true → ActiveDefault t link
+default-at t link = go (inRange link) refl
+  where
+    go : (b : Bool) → inRange link ≡ b → isDefault (pick b (roleAt t (indexOf link)) Idle) ≡ true → ActiveDefault t link
+    go true e h = let r = range-says link .to e in (r .0, r .1, default-says (roleAt t (indexOf link)) .to h)
+    go false e h = never h refl
+
+-- the new dedicated bearer, before its filters
+abbrev linkedView : Table → ℕ → ℕ → View
+linkedView t bearer link = openedView t (indexOf bearer) (Dedicated link)
+
+-- by what the reader says, on a table whose transaction is closed
+module _ (t : Table) (kept : Kept t) (value : List ℕ) (octets : All Octet value) where
+  modified-kept : (bearer : ℕ) → isIdle (roleOf t bearer) ≡ false → (a : ReadAnswer) → readElement value .answer ≡ a
+      → Kept (modifiedBy a t bearer (readElement value) .table)
+  unfolding deleteFilters deletedTft
+  modified-kept bearer h (readRefused refusal) e = kept
+  modified-kept bearer h (Filters operation) e =
+      laid-kept t kept bearer (readElement value .filters) (creates operation) (active-at t bearer h .2) (read-in-range value octets .filters)
+      (set-well value octets operation e)
+  modified-kept bearer h Identifiers e =
+      by-test (isDedicated (roleOf t bearer) && empties t (indexOf bearer) (readElement value .marks)) _ _ (λ _. kept)
+      (λ _. deleted-kept t kept (indexOf bearer) (readElement value .marks))
+  modified-kept bearer h (Bare DeleteTft) e = deleted-kept t kept (indexOf bearer) (replicate placeCount true)
+  modified-kept bearer h (Bare NoOperation) e = kept
+
+  modify-named : (bearer : ℕ) → Kept (modifyNamed t bearer value .table)
+  unfolding modifyNamed modifyRead
+  modify-named bearer =
+      by-test (isIdle (roleOf t bearer)) _ _ (λ _. kept) (λ h.
+      by-test (headFine value) _ _ (λ _.
+      by-test (isDedicated (roleOf t bearer) && eqb (operationOf value) 2) _ _ (λ _. kept) (λ _. modified-kept bearer h (readElement value .answer) refl)) (λ _. kept))
+
+  module _ (bearer link : ℕ) (idle : Free t bearer) (default : ActiveDefault t link) where
+    linked-kept : Kept (build (linkedView t bearer link))
+    linked-kept =
+        kept-built (linkedView t bearer link) (opened-in-range t (kept .inRange) (indexOf bearer) (Dedicated link) (omega arith))
+        (well-dedicated t (kept .well) (indexOf bearer) (idle .2) link default)
+
+    linked-active : roleAt (build (linkedView t bearer link)) (indexOf bearer) ≡ Idle → ⊥
+    linked-active h =
+        let q : linkedView t bearer link .role (indexOf bearer) ≡ Dedicated link = rw (eq-eqb (indexOf bearer) (indexOf bearer) refl) in
+        never (ap isIdle h) (ap isIdle (role-built (linkedView t bearer link) (indexOf bearer) (omega arith) ∙ q))
+
+    activated-kept : (a : ReadAnswer) → readElement value .answer ≡ a → Kept (activatedBy a t bearer link (readElement value) .table)
+    activated-kept (readRefused refusal) e = kept
+    activated-kept (Filters operation) e =
+        laid-kept (build (linkedView t bearer link)) linked-kept bearer (readElement value .filters) true linked-active (read-in-range value octets .filters)
+        (set-well value octets operation e)
+    activated-kept Identifiers e = kept
+    activated-kept (Bare operation) e = kept
+
+  activate-named : (bearer link : ℕ) → Kept (activateNamed t bearer link value .table)
+  unfolding activateNamed activateRead
+  activate-named bearer link =
+      by-test (free t bearer && isDefault (roleOf t link)) _ _ (λ h.
+      let f = both (free t bearer) (isDefault (roleOf t link)) h in
+      by-test (headFine value) _ _ (λ _.
+      by-test (eqb (operationOf value) 1) _ _
+      (λ _. activated-kept bearer link (free-at t bearer (f .0)) (default-at t link (f .1)) (readElement value .answer) refl) (λ _. kept)) (λ _. kept)) (λ _. kept)
+
+-- a transaction that is not open, of an identity that may be
+unopened : (t : Table) (x : ℕ) → (x ≡ 0 → ⊥) → x ≤ lastTransaction → isOpen t x ≡ false → anyBelow (opensAt t x) bearerCount ≡ false
+unfolding isOpen
+unopened t x n l e = rw (ne-eqb x 0 n, le-leb x lastTransaction l) at e
+
+module _ (t : Table) (kept : Kept t) where
+  pub activate-default-kept : (bearer : ℕ) → Kept (activateDefaultOf t bearer .table)
+  unfolding activateDefaultOf
+  activate-default-kept bearer =
+      by-test (wellFormed t) _ _ (λ _. by-test (free t bearer) _ _ opened (λ _. kept)) (λ _. kept)
+    where
+      opened : free t bearer ≡ true → Kept (build (openedView t (indexOf bearer) Default))
+      opened e =
+          kept-built (openedView t (indexOf bearer) Default) (opened-in-range t (kept .inRange) (indexOf bearer) Default tt)
+          (well-default t (kept .well) (indexOf bearer) (free-at t bearer e .2))
+
+  pub activate-dedicated-kept : (bearer link x : ℕ) (value : List ℕ) → All Octet value → Kept (activateDedicatedOf t bearer link x value .table)
+  unfolding activateDedicatedOf
+  activate-dedicated-kept bearer link x value octets =
+      by-test (wellFormed t) _ _ (λ _.
+      by-test (mismatch t x) _ _ (λ _. kept) (λ _. activate-named (closed t x) (closed-kept t kept x) value octets bearer link)) (λ _. kept)
+
+  pub modify-kept : (bearer x : ℕ) (value : List ℕ) → All Octet value → Kept (modifyOf t bearer x value .table)
+  unfolding modifyOf
+  modify-kept bearer x value octets =
+      by-test (wellFormed t) _ _ (λ _.
+      by-test (mismatch t x) _ _ (λ _. kept) (λ _. modify-named (closed t x) (closed-kept t kept x) value octets bearer)) (λ _. kept)
+
+  pub deactivate-kept : (bearer x : ℕ) → Kept (deactivateOf t bearer x .table)
+  unfolding deactivateOf
+  deactivate-kept bearer x = by-test (wellFormed t) _ _ (λ _. dropped-kept (closed t x) (closed-kept t kept x) bearer) (λ _. kept)
+
+  pub reject-kept : (x cause : ℕ) → Kept (rejectOf t x cause .table)
+  unfolding rejectOf
+  reject-kept x cause = by-test (wellFormed t) _ _ (λ _. by-test (isOpen t x) _ _ (λ _. rejected) (λ _. kept)) (λ _. kept)
+    where
+      rejected : Kept (rejectedBy (eqb cause 43) t x)
+      rejected =
+          let c = closed-kept t kept x in
+          picked Kept (eqb cause 43) (dropped (closed t x) (ownerBelow t x bearerCount)) (closed t x) (dropped-kept (closed t x) c (ownerBelow t x bearerCount)) c
+
+  pub start-kept : (x bearer : ℕ) → x < 2 ^ 8 → Kept (startOf t x bearer .table)
+  unfolding startOf
+  start-kept x bearer s =
+      by-test (wellFormed t) _ _ (λ _.
+      by-test (eqb x 0 || eqb x 255) _ _ (λ _. kept) (λ e.
+      by-test (isIdle (roleOf t bearer)) _ _ (λ _. kept) (λ h.
+      by-test (eqb (transactionAt t (indexOf bearer)) 0) _ _ (λ _. by-test (isOpen t x) _ _ (λ _. kept) (started e h)) (λ _. kept)))) (λ _. kept)
+    where
+      started : eqb x 0 || eqb x 255 ≡ false → isIdle (roleOf t bearer) ≡ false → isOpen t x ≡ false → Kept (build (startedView t (indexOf bearer) x))
+      started e h o =
+          let n = neither (eqb x 0) (eqb x 255) e in
+          let some : x ≡ 0 → ⊥ = eqb-false x 0 (n .0) in
+          let other : x ≡ 255 → ⊥ = eqb-false x 255 (n .1) in
+          let few : x ≤ lastTransaction = omega arith in
+          kept-built (startedView t (indexOf bearer) x) (started-in-range t (kept .inRange) (indexOf bearer) x s)
+          (well-started t (kept .well) x (indexOf bearer) (active-at t bearer h .2) few (not-open t x (unopened t x some few o)))
+
+-- ---- The same of the test
+module _ (t : Table) (r : TableInRange t) (e : wellFormed t ≡ true) where
+  before : Kept t
+  before = record { inRange = r; well = well-says t r .to e }
+
+  after : (s : Table) → Kept s → wellFormed s ≡ true
+  after s k = well-says s (k .inRange) .from (k .well)
+
+  pub activate-default-well : (bearer : ℕ) → wellFormed (activateDefaultOf t bearer .table) ≡ true
+  activate-default-well bearer = after (activateDefaultOf t bearer .table) (activate-default-kept t before bearer)
+
+  pub activate-dedicated-well : (bearer link x : ℕ) (value : List ℕ) → All Octet value → wellFormed (activateDedicatedOf t bearer link x value .table) ≡ true
+  activate-dedicated-well bearer link x value octets =
+      after (activateDedicatedOf t bearer link x value .table) (activate-dedicated-kept t before bearer link x value octets)
+
+  pub modify-well : (bearer x : ℕ) (value : List ℕ) → All Octet value → wellFormed (modifyOf t bearer x value .table) ≡ true
+  modify-well bearer x value octets = after (modifyOf t bearer x value .table) (modify-kept t before bearer x value octets)
+
+  pub deactivate-well : (bearer x : ℕ) → wellFormed (deactivateOf t bearer x .table) ≡ true
+  deactivate-well bearer x = after (deactivateOf t bearer x .table) (deactivate-kept t before bearer x)
+
+  pub reject-well : (x cause : ℕ) → wellFormed (rejectOf t x cause .table) ≡ true
+  reject-well x cause = after (rejectOf t x cause .table) (reject-kept t before x cause)
+
+  pub start-well : (x bearer : ℕ) → x < 2 ^ 8 → wellFormed (startOf t x bearer .table) ≡ true
+  start-well x bearer s = after (startOf t x bearer .table) (start-kept t before x bearer s)

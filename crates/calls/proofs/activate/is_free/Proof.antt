@@ -1,0 +1,14 @@
+-- `calls::activate::is_free` meets its contract: the identity is in range and the bearer idle.
+-- Assumes nothing.
+use borrow.Author.Needs.{needs}
+use Rattle.calls.proofs.activate.is_free.Statement.{statement}
+use Rattle.calls.proofs.activate.is_free.Tie as tie
+
+pub is-free-spec : {M : Type 1} → statement M
+is-free-spec =
+    tie.close
+    (tie.spec
+    (λ c κs. search needs)
+    (λ c κs. search needs)
+    (λ c κs. search needs)
+    (λ c. rw (c .before .before .in-range .ensures, c .is-idle .ensures, c .before .role-of .ensures)))

@@ -1,0 +1,72 @@
+-- `calls::lay::lay_on` meets its contract: the laid table where the default stays; else the connection goes, answered by whether it was the only one.
+-- Assumes nothing.
+use mathlib.Core.Path.{_≡_, sym, _∙_, subst}
+use mathlib.Core.Bool.{Bool, false}
+use mathlib.Core.List.{List}
+use Prim.Native.Nat.{ℕ}
+use borrow.Author.Tests.{not-true, not-false}
+use Rattle.filter.specs.declared.component.Filter.{Filter}
+use Rattle.table.specs.declared.bearer.Table.{Table}
+use Rattle.table.specs.Bearers.{indexOf, build}
+use Rattle.calls.specs.declared.reply.Answer.the-variants.{Accept}
+use Rattle.calls.specs.declared.reply.Outcome.{Outcome}
+use Rattle.calls.specs.Reply.{outcome}
+use Rattle.calls.specs.Lay.{released, laidView, followers, laidOn}
+use borrow.Author.Needs.{needs}
+use Rattle.calls.proofs.lay.lay_on.Statement.{statement}
+use Rattle.calls.proofs.lay.lay_on.Tie as tie
+
+module _ (t : Table) (bearer connection : ℕ) (new : List Filter) (create : Bool) where
+  -- what the code makes, with k for the bearer's index
+  abbrev made : ℕ → Outcome
+  made k = outcome (build (laidView new create t k connection)) (Accept bearer) (followers new create t k connection)
+
+  not-released : (k : ℕ) → k ≡ indexOf bearer → released new create t k connection ≡ false → made k ≡ laidOn t bearer connection new create
+  unfolding laidOn
+  not-released k e = subst (λ (k : ℕ). released new create t k connection ≡ false → made k ≡ laidOn t bearer connection new create) (sym e) (λ h. rw h)
+
+returns : tie.Need-returns
+returns c =
+    let p = c .before .before .before in
+    let a = p .before .before .args in
+    rw (c .before .laid-table .ensures, c .all-follow .ensures)
+    (not-released (a .t) (a .bearer) (a .connection) (a .new) (a .create) (p .before .index-of .result) (p .before .index-of .ensures)
+    (sym (p .is-released .ensures) ∙ not-true (p .is-released .result) (c .before .before .if1 .taken)))
+
+returns-2 : tie.Need-returns-2
+unfolding laidOn
+returns-2 c =
+    let q = c .before .before in
+    let p = q .before .before .before in
+    rw (
+      ← p .before .index-of .ensures,
+      ← p .is-released .ensures,
+      not-false (p .is-released .result) (q .before .before .if1 .left),
+      ← q .only-connection .ensures,
+      c .before .if2 .taken,
+    )
+    (cc)
+
+returns-3 : tie.Need-returns-3
+unfolding laidOn
+returns-3 c =
+    let q = c .before .before in
+    let p = q .before .before .before in
+    rw (
+      ← p .before .index-of .ensures,
+      ← p .is-released .ensures,
+      not-false (p .is-released .result) (q .before .before .if1 .left),
+      ← q .only-connection .ensures,
+      c .before .if2 .left,
+    )
+    (cc)
+
+pub lay-on-spec : {M : Type 1} → statement M
+lay-on-spec =
+    tie.close
+    (tie.spec
+    (λ c κs. search needs) (λ c κs. search needs) (λ c κs. search needs) (λ c κs. search needs)
+    returns
+    (λ c κs. search needs) (λ c κs. search needs) (λ c κs. search needs) (λ c κs. search needs)
+    returns-2
+    returns-3)

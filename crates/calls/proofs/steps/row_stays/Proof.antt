@@ -1,0 +1,42 @@
+-- `calls::steps::row_stays` meets its contract: the tests so far are those of the places passed.
+-- Assumes nothing.
+use mathlib.Core.Path.{_≡_}
+use Prim.Native.Nat.{_≤_, _-_}
+use native.Mathlib.Omega.{arith}
+use Rattle.laws.specs.Index.{anyBelow}
+use Rattle.laws.proofs.Index.{any-start, any-more, done}
+use Rattle.calls.specs.Steps.{staysIn}
+use borrow.Author.Needs.{needs}
+use Rattle.calls.proofs.steps.row_stays.Statement.{statement}
+use Rattle.calls.proofs.steps.row_stays.Tie as tie
+
+abbrev Inv-loop : tie.InvT-loop
+Inv-loop marks row any₀ j₀ any j = (j ≤ 16) × (any ≡ anyBelow (staysIn marks row) j)
+
+abbrev μ-loop : tie.MeasureT-loop
+μ-loop marks row any₀ j₀ any j = 16 - j
+
+loop-holds : tie.Need-loop-holds Inv-loop μ-loop
+loop-holds c =
+    let a = c .args in
+    (omega arith, any-start (staysIn (a .t1) (a .t2)))
+
+loop-again : tie.Need-loop-again Inv-loop μ-loop
+unfolding staysIn
+loop-again c =
+    let a = c .before .before .before .before .args in
+    let l = c .before .before .before .loop in
+    (omega arith, any-more (staysIn (a .t1) (a .t2)) (l .j) (l .any) _ (cc) (l .inv .1))
+
+returns : tie.Need-returns Inv-loop μ-loop
+returns c =
+    let a = c .before .before .args in
+    let l = c .before .loop in
+    done (anyBelow (staysIn (a .t1) (a .t2))) (l .j) 16 _ (omega arith) (omega arith) (l .inv .1)
+
+pub row-stays-spec : {M : Type 1} → statement M
+row-stays-spec =
+    tie.close
+    (tie.spec
+    Inv-loop μ-loop loop-holds (λ c. search needs) (λ c. search needs) (λ c κs. search needs) (λ c. search needs) (λ c. search needs)
+    (λ c. search needs) loop-again returns)

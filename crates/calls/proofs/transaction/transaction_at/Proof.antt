@@ -1,0 +1,21 @@
+-- `calls::transaction::transaction_at` meets its contract: past the end the transaction is that of no bearer, 0.
+-- Assumes nothing.
+use mathlib.Core.Path.{sym, ap}
+use native.Mathlib.Omega.{arith}
+use lib.ListN.{List·getD-eq-default}
+use Rattle.table.specs.declared.bearer.Bearer.{Bearer}
+use Rattle.table.specs.Bearers.{noBearer}
+use Rattle.table.proofs.Typed.{table-in-range}
+use borrow.Author.Needs.{needs}
+use Rattle.calls.proofs.transaction.transaction_at.Statement.{statement}
+use Rattle.calls.proofs.transaction.transaction_at.Tie as tie
+
+returns-2 : tie.Need-returns-2
+returns-2 c =
+    let start = c .before in
+    let a = start .args in
+    let ok = table-in-range (a .t1) _ (start .good .0) in
+    ap (λ (b : Bearer). b .transaction) (sym (List·getD-eq-default (a .t1 .bearers) noBearer (omega arith)))
+
+pub transaction-at-spec : {M : Type 1} → statement M
+transaction-at-spec = tie.close (tie.spec (λ c. search needs) (λ c. search needs) (λ c. search needs) returns-2)

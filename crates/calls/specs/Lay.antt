@@ -1,0 +1,95 @@
+-- "A conflict is an old filter of the connection, remaining after the above, with a new filter's precedence."
+use Prim.Native.Nat.{ℕ, _+_}
+use mathlib.Core.Bool.{Bool, true, false, not, _&&_, _||_}
+use mathlib.Core.List.{List, []}
+use lib.Dec.{eqb}
+use lib.ListN.{set}
+use Rattle.laws.specs.Says.{pick}
+use Rattle.laws.specs.Index.{anyBelow, picks}
+use Rattle.filter.specs.declared.component.Filter.{Filter}
+use Rattle.filter.specs.Coding.{held}
+use Rattle.table.specs.declared.bearer.Table.{Table}
+use Rattle.table.specs.Bearers.{bearerCount, placeCount, indexOf, identityOf, emptyFilter, bearerAt, inRow, roleAt, transactionAt, View, build, isDefault, isDedicated, connectionAt}
+use Rattle.calls.specs.declared.reply.Answer.{Answer}
+use Rattle.calls.specs.declared.reply.Answer.the-variants.{Accept, Release, Reattach}
+use Rattle.calls.specs.declared.reply.FollowUps.{FollowUps}
+use Rattle.calls.specs.declared.reply.Outcome.{Outcome}
+use Rattle.calls.specs.Reply.{outcome, answered}
+use Rattle.calls.specs.Steps.{cutView, ofConnection}
+
+-- ---- one place: `named` on the named bearer, `mine` on its connection, n the new filter of that place, f the old one
+-- "create puts the new set in place of the old"; "Add and replace lay the new filters over the old by identifier": the old filter that remains
+unfoldable pub old : Bool → Bool → Filter → Filter → Filter
+old create named n f = pick (named && (create || held n)) emptyFilter f
+
+-- a new filter has precedence p
+unfoldable pub takenBy : List Filter → ℕ → ℕ → Bool
+takenBy new p j = held (inRow new j) && eqb (inRow new j .precedence) p
+
+unfoldable pub takes : List Filter → ℕ → Bool
+takes new p = anyBelow (takenBy new p) placeCount
+
+unfoldable pub conflict : List Filter → Bool → Filter → Bool
+conflict new mine f = mine && held f && takes new (f .precedence)
+
+module _ (new : List Filter) (create : Bool) where
+  -- the new filter; else nothing at a conflict; else the old one
+  unfoldable pub placed : Bool → Bool → Filter → Filter → Filter
+  placed named mine n f = pick (named && held n) n (pick (conflict new mine (old create named n f)) emptyFilter (old create named n f))
+
+  -- ---- one row
+  unfoldable pub conflictIn : Bool → Bool → List Filter → ℕ → Bool
+  conflictIn named mine row j = conflict new mine (old create named (inRow new j) (inRow row j))
+
+  unfoldable pub loses : Bool → Bool → List Filter → Bool
+  loses named mine row = anyBelow (conflictIn named mine row) placeCount
+
+  unfoldable pub placedIn : Bool → Bool → List Filter → ℕ → Filter
+  placedIn named mine row j = placed named mine (inRow new j) (inRow row j)
+
+  -- ---- the table: the bearer at k is named, and is of the connection
+  module _ (t : Table) (k connection : ℕ) where
+    unfoldable pub losesAt : ℕ → Bool
+    losesAt i = loses (eqb i k) (ofConnection t connection i) (bearerAt t i .row)
+
+    unfoldable pub frees : ℕ → Bool
+    frees i = isDefault (roleAt t i) && losesAt i
+
+    unfoldable pub follows : ℕ → Bool
+    follows i = isDedicated (roleAt t i) && losesAt i
+
+    abbrev pub laidView : View
+    laidView = record { role = roleAt t; transaction = transactionAt t; filter = λ i. placedIn (eqb i k) (ofConnection t connection i) (bearerAt t i .row) }
+
+    -- "Any conflict on the default"
+    unfoldable pub released : Bool
+    released = anyBelow frees bearerCount
+
+    -- "those bearers, the named one included, form the follow-up list in rising identity"
+    unfoldable pub followers : List ℕ
+    followers = picks follows identityOf bearerCount
+
+-- one more in the list
+abbrev pub noted : FollowUps → Bool → ℕ → FollowUps
+noted s true bearer = record { count = s .count + 1; bearers = set (s .bearers) (s .count) bearer }
+noted s false bearer = s
+
+-- "or "detach and re-attach" where it was the only connection"
+unfoldable pub otherAt : Table → ℕ → ℕ → Bool
+otherAt t connection i = isDefault (roleAt t i) && not (eqb (identityOf i) connection)
+
+unfoldable pub onlyConnection : Table → ℕ → Bool
+onlyConnection t connection = not (anyBelow (otherAt t connection) bearerCount)
+
+abbrev pub laidBy : Bool → Table → ℕ → ℕ → List Filter → Bool → Outcome
+laidBy true t bearer connection new create =
+    answered (build (cutView t (ofConnection t connection))) (pick (onlyConnection t connection) Reattach (Release connection))
+laidBy false t bearer connection new create =
+    outcome (build (laidView new create t (indexOf bearer) connection)) (Accept bearer) (followers new create t (indexOf bearer) connection)
+
+unfoldable pub laidOn : Table → ℕ → ℕ → List Filter → Bool → Outcome
+laidOn t bearer connection new create = laidBy (released new create t (indexOf bearer) connection) t bearer connection new create
+
+-- new filters on a bearer, over the old ones or in their place
+unfoldable pub laid : Table → ℕ → List Filter → Bool → Outcome
+laid t bearer new create = laidOn t bearer (connectionAt t (indexOf bearer)) new create

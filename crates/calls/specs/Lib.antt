@@ -1,0 +1,5 @@
+pub mod Reply
+pub mod Steps
+pub mod Lay
+pub mod Modify
+pub mod Others

@@ -1,0 +1,79 @@
+-- "Order of checks for a modify message"
+use Prim.Native.Nat.{ℕ, _/_}
+use mathlib.Core.Bool.{Bool, true, false, not, _&&_}
+use mathlib.Core.List.{List}
+use lib.Dec.{eqb, leb}
+use lib.ListN.{length, getD, replicate}
+use Rattle.laws.specs.Says.{pick}
+use Rattle.element.specs.declared.answer.SetOperation.{SetOperation}
+use Rattle.element.specs.declared.answer.SetOperation.the-variants.{Create, Add, Replace}
+use Rattle.element.specs.declared.answer.BareOperation.the-variants.{DeleteTft, NoOperation}
+use Rattle.element.specs.declared.answer.Answer.{Answer as ReadAnswer}
+use Rattle.element.specs.declared.answer.Answer.the-variants.{Filters, Identifiers, Bare, Refused as readRefused}
+use Rattle.element.specs.declared.answer.Element.{Element}
+use Rattle.element.specs.Read.{readElement}
+use Rattle.table.specs.declared.bearer.Table.{Table}
+use Rattle.table.specs.Bearers.{placeCount, indexOf, build, isIdle, isDedicated, roleOf}
+use Rattle.table.specs.WellFormed.{wellFormed}
+use Rattle.calls.specs.declared.reply.Cause.the-variants.{TftSemantics, TftSyntax, BearerIdentity, Transaction}
+use Rattle.calls.specs.declared.reply.Refusal.the-variants.{NotWellFormed}
+use Rattle.calls.specs.declared.reply.Answer.the-variants.{Accept, Refused}
+use Rattle.calls.specs.declared.reply.Outcome.{Outcome}
+use Rattle.calls.specs.Reply.{causeOf, answered, rejected}
+use Rattle.calls.specs.Steps.{isOpen, closed, deletedView, empties}
+use Rattle.calls.specs.Lay.{laid}
+
+-- Step 1: "Table not well formed: 1."
+abbrev pub malformed : Table → Outcome
+malformed t = answered t (Refused NotWellFormed)
+
+-- Step 2: "Transaction identity 1 to 254 not open, or 255 (house): 47. 0 means none."
+abbrev pub mismatch : Table → ℕ → Bool
+mismatch t x = not (eqb x 0) && not (isOpen t x)
+
+-- Step 4: "Value length 0 or above 255, operation 0 or 7: 42."
+abbrev pub operationOf : List ℕ → ℕ
+operationOf value = getD value 0 0 / 32
+
+unfoldable pub headFine : List ℕ → Bool
+headFine value = leb 1 (length value) && leb (length value) 255 && leb 1 (operationOf value) && leb (operationOf value) 6
+
+-- ---- Then: "create puts the new set in place of the old. .. Add and replace lay the new filters over the old by identifier"
+abbrev pub creates : SetOperation → Bool
+creates Create = true
+creates Add = false
+creates Replace = false
+
+-- Step 10: "Delete filters that empties a TFT with filters, dedicated bearer: 41."
+unfoldable pub deleteFilters : Table → ℕ → List Bool → Outcome
+deleteFilters t bearer marks =
+    pick (isDedicated (roleOf t bearer) && empties t (indexOf bearer) marks) (rejected t bearer TftSemantics)
+    (answered (build (deletedView t (indexOf bearer) marks)) (Accept bearer))
+
+-- "Delete TFT removes a default's TFT."
+unfoldable pub deletedTft : Table → ℕ → Outcome
+deletedTft t bearer = answered (build (deletedView t (indexOf bearer) (replicate placeCount true))) (Accept bearer)
+
+-- Steps 6 to 9 are the reader's
+abbrev pub modifiedBy : ReadAnswer → Table → ℕ → Element → Outcome
+modifiedBy (readRefused refusal) t bearer e = rejected t bearer (causeOf (refusal .cause))
+modifiedBy (Filters operation) t bearer e = laid t bearer (e .filters) (creates operation)
+modifiedBy Identifiers t bearer e = deleteFilters t bearer (e .marks)
+modifiedBy (Bare DeleteTft) t bearer e = deletedTft t bearer
+modifiedBy (Bare NoOperation) t bearer e = answered t (Accept bearer)
+
+-- Step 5: "Delete TFT on a dedicated bearer, with or without a TFT: 41."
+unfoldable pub modifyRead : Table → ℕ → List ℕ → Outcome
+modifyRead t bearer value =
+    pick (isDedicated (roleOf t bearer) && eqb (operationOf value) 2) (rejected t bearer TftSemantics)
+    (modifiedBy (readElement value .answer) t bearer (readElement value))
+
+-- Step 3: "Bearer not 5 to 15, or idle: 43."
+unfoldable pub modifyNamed : Table → ℕ → List ℕ → Outcome
+modifyNamed t bearer value =
+    pick (isIdle (roleOf t bearer)) (rejected t bearer BearerIdentity)
+    (pick (headFine value) (modifyRead t bearer value) (rejected t bearer TftSyntax))
+
+unfoldable pub modifyOf : Table → ℕ → ℕ → List ℕ → Outcome
+modifyOf t bearer x value =
+    pick (wellFormed t) (pick (mismatch t x) (rejected t bearer Transaction) (modifyNamed (closed t x) bearer value)) (malformed t)

@@ -1,0 +1,87 @@
+-- The steps that calls are made of, each a table made from a view of the one before.
+use Prim.Native.Nat.{ℕ, zero, suc}
+use mathlib.Core.Bool.{Bool, true, false, not, _&&_}
+use mathlib.Core.List.{List}
+use lib.Dec.{eqb, leb}
+use lib.ListN.{getD}
+use Rattle.laws.specs.Says.{pick}
+use Rattle.laws.specs.Index.{anyBelow, tab}
+use Rattle.filter.specs.declared.component.Filter.{Filter}
+use Rattle.filter.specs.Coding.{held}
+use Rattle.table.specs.declared.bearer.Role.{Role}
+use Rattle.table.specs.declared.bearer.Role.the-variants.{Idle, Default, Dedicated}
+use Rattle.table.specs.declared.bearer.Bearer.{Bearer}
+use Rattle.table.specs.declared.bearer.Table.{Table}
+use Rattle.table.specs.Bearers.{bearerCount, placeCount, lastTransaction, indexOf, identityOf, emptyFilter, bearerAt, inRow, roleAt, transactionAt, filterAt, View, build, roleOf, connectionAt}
+
+-- ---- transactions
+unfoldable pub opensAt : Table → ℕ → ℕ → Bool
+opensAt t x i = eqb (transactionAt t i) x
+
+-- "Transaction identity 1 to 254"
+unfoldable pub isOpen : Table → ℕ → Bool
+isOpen t x = not (eqb x 0) && leb x lastTransaction && anyBelow (opensAt t x) bearerCount
+
+-- the bearer that it is open on
+unfoldable pub ownerBelow : Table → ℕ → ℕ → ℕ
+ownerBelow t x zero = 0
+ownerBelow t x (suc n) = pick (opensAt t x n) (identityOf n) (ownerBelow t x n)
+
+abbrev pub closedView : Table → ℕ → View
+closedView t x = record { role = roleAt t; transaction = λ i. pick (opensAt t x i) 0 (transactionAt t i); filter = filterAt t }
+
+-- "0 means none. A match is closed, whatever follows."
+unfoldable pub closed : Table → ℕ → Table
+closed t x = pick (eqb x 0) t (build (closedView t x))
+
+abbrev pub startedView : Table → ℕ → ℕ → View
+startedView t k x = record { role = roleAt t; transaction = λ i. pick (eqb i k) x (transactionAt t i); filter = filterAt t }
+
+-- ---- bearers: one more, and some gone with all they hold
+abbrev pub openedView : Table → ℕ → Role → View
+openedView t k role = record { role = λ i. pick (eqb i k) role (roleAt t i); transaction = transactionAt t; filter = filterAt t }
+
+abbrev pub cutView : Table → (ℕ → Bool) → View
+cutView t gone =
+    record {
+      role = λ i. pick (gone i) Idle (roleAt t i);
+      transaction = λ i. pick (gone i) 0 (transactionAt t i);
+      filter = λ i j. pick (gone i) emptyFilter (filterAt t i j);
+    }
+
+unfoldable pub ofConnection : Table → ℕ → ℕ → Bool
+ofConnection t connection i = eqb (connectionAt t i) connection
+
+unfoldable pub isAt : ℕ → ℕ → Bool
+isAt k i = eqb i k
+
+-- what stands where a bearer may be gone
+abbrev pub cutBearer : Bool → Bearer → Bearer
+cutBearer gone b =
+    record { role = pick gone Idle (b .role); transaction = pick gone 0 (b .transaction); row = tab (λ j. pick gone emptyFilter (inRow (b .row) j)) placeCount }
+
+-- "a default takes its connection along"
+abbrev pub droppedBy : Role → Table → ℕ → Table
+droppedBy Idle t bearer = t
+droppedBy Default t bearer = build (cutView t (ofConnection t bearer))
+droppedBy (Dedicated link) t bearer = build (cutView t (isAt (indexOf bearer)))
+
+unfoldable pub dropped : Table → ℕ → Table
+dropped t bearer = droppedBy (roleOf t bearer) t bearer
+
+-- ---- filters of one bearer, deleted by identifier
+unfoldable pub deletedIn : Bool → List Bool → List Filter → ℕ → Filter
+deletedIn named marks row j = pick (named && getD marks j false) emptyFilter (inRow row j)
+
+abbrev pub deletedView : Table → ℕ → List Bool → View
+deletedView t k marks = record { role = roleAt t; transaction = transactionAt t; filter = λ i. deletedIn (eqb i k) marks (bearerAt t i .row) }
+
+unfoldable pub holdsIn : List Filter → ℕ → Bool
+holdsIn row j = held (inRow row j)
+
+unfoldable pub staysIn : List Bool → List Filter → ℕ → Bool
+staysIn marks row j = held (inRow row j) && not (getD marks j false)
+
+-- "Delete filters that empties a TFT with filters"
+unfoldable pub empties : Table → ℕ → List Bool → Bool
+empties t k marks = anyBelow (holdsIn (bearerAt t k .row)) placeCount && not (anyBelow (staysIn marks (bearerAt t k .row)) placeCount)

@@ -1,0 +1,129 @@
+// What a call gives.
+ghost use mathlib.Core.Path.{_≡_};
+ghost use mathlib.Core.List.{[]};
+ghost use Rattle.calls.specs.Reply.{causeNumber, refusalNumber, numberOf, causeOf, followOf, answered, rejected};
+use table::Table;
+use table::bearer::BEARERS;
+
+// 41, 42, 43, 44, 45 and 47 of document 01.
+pub enum Cause {
+    TftSemantics,
+    TftSyntax,
+    BearerIdentity,
+    FilterSemantics,
+    FilterSyntax,
+    Transaction,
+}
+
+// 1, 3, 4, 5, 6 and 7 of document 01.
+pub enum Refusal {
+    NotWellFormed,
+    NotOpen,
+    NoIdentity,
+    AlreadyOpen,
+    NoBearer,
+    BearerBusy,
+}
+
+// Release and Reattach: no reply is sent.
+pub enum Answer {
+    Accept(u8),
+    Reject(u8, Cause),
+    Release(u8),
+    Reattach,
+    Started(u8),
+    Closed(u8),
+    Refused(Refusal),
+}
+
+// Identities in rising order, zero beyond the count.
+pub struct FollowUps {
+    pub count: u8,
+    pub bearers: [u8; BEARERS],
+}
+
+pub struct Reply {
+    pub answer: Answer,
+    pub follow: FollowUps,
+}
+
+pub struct Outcome {
+    pub table: Table,
+    pub reply: Reply,
+}
+
+fn cause_number(cause: Cause) -> u8
+    ensures { λ r. ⌜ r ≡ causeNumber cause ⌝ }
+{
+    match cause {
+        Cause::TftSemantics => 41,
+        Cause::TftSyntax => 42,
+        Cause::BearerIdentity => 43,
+        Cause::FilterSemantics => 44,
+        Cause::FilterSyntax => 45,
+        Cause::Transaction => 47,
+    }
+}
+
+fn refusal_number(refusal: Refusal) -> u8
+    ensures { λ r. ⌜ r ≡ refusalNumber refusal ⌝ }
+{
+    match refusal {
+        Refusal::NotWellFormed => 1,
+        Refusal::NotOpen => 3,
+        Refusal::NoIdentity => 4,
+        Refusal::AlreadyOpen => 5,
+        Refusal::NoBearer => 6,
+        Refusal::BearerBusy => 7,
+    }
+}
+
+// Document 01's number; 0 where nothing is refused.
+pub fn number(answer: Answer) -> u8
+    ensures { λ r. ⌜ r ≡ numberOf answer ⌝ }
+{
+    match answer {
+        Answer::Accept(_) => 0,
+        Answer::Reject(_, cause) => cause_number(cause),
+        Answer::Release(_) => 0,
+        Answer::Reattach => 0,
+        Answer::Started(_) => 0,
+        Answer::Closed(_) => 0,
+        Answer::Refused(refusal) => refusal_number(refusal),
+    }
+}
+
+pub(crate) fn cause_of(cause: element::Cause) -> Cause
+    ensures { λ r. ⌜ r ≡ causeOf cause ⌝ }
+{
+    match cause {
+        element::Cause::Operation => Cause::TftSyntax,
+        element::Cause::Semantics => Cause::FilterSemantics,
+        element::Cause::Coding => Cause::FilterSyntax,
+    }
+}
+
+pub(crate) fn none_follow() -> FollowUps
+    ensures { λ r. ⌜ r ≡ followOf [] ⌝ }
+{
+    FollowUps {
+        count: 0,
+        bearers: [0; BEARERS],
+    }
+}
+
+pub(crate) fn answer_with(t: Table, answer: Answer) -> Outcome
+    ensures { λ r. ⌜ r ≡ answered t answer ⌝ }
+{
+    let follow = none_follow();
+    Outcome {
+        table: t,
+        reply: Reply { answer, follow },
+    }
+}
+
+pub(crate) fn reject_with(t: Table, bearer: u8, cause: Cause) -> Outcome
+    ensures { λ r. ⌜ r ≡ rejected t bearer cause ⌝ }
+{
+    answer_with(t, Answer::Reject(bearer, cause))
+}

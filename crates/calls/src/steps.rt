@@ -1,0 +1,251 @@
+// The steps that calls are made of.
+ghost use mathlib.Core.Path.{_≡_};
+ghost use Prim.Native.Nat.{_<_};
+ghost use Rattle.laws.specs.Says.{pick};
+ghost use Rattle.laws.specs.Index.{anyBelow, tab};
+ghost use Rattle.table.specs.Bearers.{emptyFilter, build, bearerOf};
+ghost use Rattle.calls.specs.Steps.{opensAt, isOpen, ownerBelow, closedView, closed, startedView, openedView, cutView, ofConnection, isAt, cutBearer, dropped, deletedIn, deletedView, holdsIn, staysIn, empties};
+use filter::Filter;
+use filter::coding::held;
+use table::Bearer;
+use table::Role;
+use table::Table;
+use table::bearer::BEARERS;
+use table::bearer::FIRST_IDENTITY;
+use table::bearer::PLACES;
+use table::bearer::connection_at;
+use table::bearer::index_of;
+use table::bearer::role_of;
+
+const LAST_TRANSACTION: u8 = 254;
+
+fn opens_at(t: Table, x: u8, i: usize) -> bool
+    requires { ⌜ i < 11 ⌝ }
+    ensures { λ r. ⌜ r ≡ opensAt t x i ⌝ }
+{
+    let b = t.bearers[i];
+    b.transaction == x
+}
+
+fn opens_any(t: Table, x: u8) -> bool
+    ensures { λ r. ⌜ r ≡ anyBelow (opensAt t x) 11 ⌝ }
+{
+    let mut any = false;
+    for i in 0..BEARERS {
+        any = any | opens_at(t, x, i);
+    }
+    any
+}
+
+pub(crate) fn is_open(t: Table, x: u8) -> bool
+    ensures { λ r. ⌜ r ≡ isOpen t x ⌝ }
+{
+    !(x == 0) & (x <= LAST_TRANSACTION) & opens_any(t, x)
+}
+
+// The bearer that a transaction is open on; 0 where there is none.
+pub(crate) fn owner_of(t: Table, x: u8) -> u8
+    ensures { λ r. ⌜ r ≡ ownerBelow t x 11 ⌝ }
+{
+    let mut owner: u8 = 0;
+    for i in 0..BEARERS {
+        if opens_at(t, x, i) {
+            owner = i as u8 + FIRST_IDENTITY;
+        }
+    }
+    owner
+}
+
+fn closed_bearer(t: Table, x: u8, i: usize) -> Bearer
+    requires { ⌜ i < 11 ⌝ }
+    ensures { λ r. ⌜ r ≡ bearerOf (closedView t x) i ⌝ }
+{
+    let b = t.bearers[i];
+    let mut c = b;
+    if b.transaction == x {
+        c.transaction = 0;
+    }
+    c
+}
+
+pub(crate) fn close(t: Table, x: u8) -> Table
+    ensures { λ r. ⌜ r ≡ closed t x ⌝ }
+{
+    if x == 0 {
+        return t;
+    }
+    let mut s = t;
+    for i in 0..BEARERS {
+        s.bearers[i] = closed_bearer(t, x, i);
+    }
+    s
+}
+
+fn started_bearer(t: Table, k: usize, x: u8, i: usize) -> Bearer
+    requires { ⌜ i < 11 ⌝ }
+    ensures { λ r. ⌜ r ≡ bearerOf (startedView t k x) i ⌝ }
+{
+    let b = t.bearers[i];
+    let mut c = b;
+    if i == k {
+        c.transaction = x;
+    }
+    c
+}
+
+pub(crate) fn started_table(t: Table, k: usize, x: u8) -> Table
+    ensures { λ r. ⌜ r ≡ build (startedView t k x) ⌝ }
+{
+    let mut s = t;
+    for i in 0..BEARERS {
+        s.bearers[i] = started_bearer(t, k, x, i);
+    }
+    s
+}
+
+fn opened_bearer(t: Table, k: usize, role: Role, i: usize) -> Bearer
+    requires { ⌜ i < 11 ⌝ }
+    ensures { λ r. ⌜ r ≡ bearerOf (openedView t k role) i ⌝ }
+{
+    let b = t.bearers[i];
+    if i == k { Bearer { role, ..b } } else { b }
+}
+
+pub(crate) fn opened_table(t: Table, k: usize, role: Role) -> Table
+    ensures { λ r. ⌜ r ≡ build (openedView t k role) ⌝ }
+{
+    let mut s = t;
+    for i in 0..BEARERS {
+        s.bearers[i] = opened_bearer(t, k, role, i);
+    }
+    s
+}
+
+fn cut_bearer(gone: bool, b: Bearer) -> Bearer
+    ensures { λ r. ⌜ r ≡ cutBearer gone b ⌝ }
+{
+    if gone {
+        Bearer {
+            role: Role::Idle,
+            transaction: 0,
+            row: [Filter::bare(0, 0); PLACES],
+        }
+    } else {
+        b
+    }
+}
+
+pub(crate) fn of_connection(t: Table, connection: u8, i: usize) -> bool
+    ensures { λ r. ⌜ r ≡ ofConnection t connection i ⌝ }
+{
+    connection_at(t, i) == connection
+}
+
+pub(crate) fn without_connection(t: Table, connection: u8) -> Table
+    ensures { λ r. ⌜ r ≡ build (cutView t (ofConnection t connection)) ⌝ }
+{
+    let mut s = t;
+    for i in 0..BEARERS {
+        let b = t.bearers[i];
+        s.bearers[i] = cut_bearer(of_connection(t, connection, i), b);
+    }
+    s
+}
+
+fn without_bearer(t: Table, k: usize) -> Table
+    ensures { λ r. ⌜ r ≡ build (cutView t (isAt k)) ⌝ }
+{
+    let mut s = t;
+    for i in 0..BEARERS {
+        let b = t.bearers[i];
+        s.bearers[i] = cut_bearer(i == k, b);
+    }
+    s
+}
+
+pub(crate) fn drop_bearer(t: Table, bearer: u8) -> Table
+    ensures { λ r. ⌜ r ≡ dropped t bearer ⌝ }
+{
+    let role = role_of(t, bearer);
+    match role {
+        Role::Idle => t,
+        Role::Default => without_connection(t, bearer),
+        Role::Dedicated(_) => without_bearer(t, index_of(bearer)),
+    }
+}
+
+fn kept_unless(gone: bool, f: Filter) -> Filter
+    ensures { λ r. ⌜ r ≡ pick gone emptyFilter f ⌝ }
+{
+    if gone { Filter::bare(0, 0) } else { f }
+}
+
+fn deleted_row(named: bool, marks: [bool; PLACES], row: [Filter; PLACES]) -> [Filter; PLACES]
+    ensures { λ r. ⌜ r ≡ tab (deletedIn named marks row) 16 ⌝ }
+{
+    let mut s = row;
+    for j in 0..PLACES {
+        let f = row[j];
+        s[j] = kept_unless(named & marks[j], f);
+    }
+    s
+}
+
+fn deleted_bearer(t: Table, k: usize, marks: [bool; PLACES], i: usize) -> Bearer
+    requires { ⌜ i < 11 ⌝ }
+    ensures { λ r. ⌜ r ≡ bearerOf (deletedView t k marks) i ⌝ }
+{
+    let b = t.bearers[i];
+    let role = b.role;
+    let row = b.row;
+    Bearer {
+        role,
+        transaction: b.transaction,
+        row: deleted_row(i == k, marks, row),
+    }
+}
+
+pub(crate) fn deleted_table(t: Table, k: usize, marks: [bool; PLACES]) -> Table
+    ensures { λ r. ⌜ r ≡ build (deletedView t k marks) ⌝ }
+{
+    let mut s = t;
+    for i in 0..BEARERS {
+        s.bearers[i] = deleted_bearer(t, k, marks, i);
+    }
+    s
+}
+
+fn row_holds(row: [Filter; PLACES]) -> bool
+    ensures { λ r. ⌜ r ≡ anyBelow (holdsIn row) 16 ⌝ }
+{
+    let mut any = false;
+    for j in 0..PLACES {
+        let f = row[j];
+        any = any | held(f);
+    }
+    any
+}
+
+fn row_stays(marks: [bool; PLACES], row: [Filter; PLACES]) -> bool
+    ensures { λ r. ⌜ r ≡ anyBelow (staysIn marks row) 16 ⌝ }
+{
+    let mut any = false;
+    for j in 0..PLACES {
+        let f = row[j];
+        any = any | (held(f) & !marks[j]);
+    }
+    any
+}
+
+// Whether deleting the marked filters of the bearer at k empties a row that holds some; none past the end.
+pub(crate) fn empties_bearer(t: Table, k: usize, marks: [bool; PLACES]) -> bool
+    ensures { λ r. ⌜ r ≡ empties t k marks ⌝ }
+{
+    if k < BEARERS {
+        let b = t.bearers[k];
+        let row = b.row;
+        row_holds(row) & !row_stays(marks, row)
+    } else {
+        false
+    }
+}

@@ -1,0 +1,72 @@
+-- Document 01's sample elements that concern the reader, and some limits: a single list under a single claim, computed.
+use mathlib.Core.Path.{_≡_, refl}
+use mathlib.Core.Bool.{true, false, not, _&&_, _||_}
+use mathlib.Core.List.{List, [], _∷_, _++_, map}
+use Prim.Native.Nat.{ℕ}
+use lib.Dec.{eqb}
+use lib.ListN.{length, replicate}
+use Rattle.laws.specs.Numbers.{sameUnder}
+use Rattle.laws.specs.Octets.{beFrom, beBytes}
+use Rattle.laws.specs.Lists.{every, isIn, repeats}
+use Rattle.filter.specs.Build.{excluded, added, built}
+use Rattle.filter.specs.Coding.{held, wellCoded, emptyPlace}
+use Rattle.filter.specs.Fit.{validHeader, agreesTransport, agreesNetwork, fits}
+use Rattle.filter.specs.Fittable.{sample, fittable}
+use Rattle.element.specs.Numbers.{numberOf}
+use Rattle.element.specs.Read.{noFilters, noMarks, codedOf, entriesOf, twice, laid, marked, readValue, readElement}
+use Rattle.element.specs.Contents.{lengthOf, componentOf, contentsFrom, contentsOf}
+use Rattle.element.specs.Framing.{splitOf, parameters, restFits, framedBy, framedOf}
+use Rattle.element.specs.Write.{contentsOctets, entryOctets, entriesFrom, entriesOctets, marksFrom, octetsOf, rowGiven, marksGiven, given}
+
+abbrev reads : List ℕ → ℕ
+reads xs = numberOf (readElement xs .answer)
+
+-- the octets that the writer makes of what was read
+abbrev again : List ℕ → List ℕ
+again xs = octetsOf (readElement xs)
+
+examples : (
+    reads (0x21 ∷ 0x31 ∷ 0x0A ∷ 0x05 ∷ 0x30 ∷ 0x11 ∷ 0x50 ∷ 0x13 ∷ 0xC4 ∷ [])
+    ∷ reads (0x21 ∷ 0x31 ∷ 0x0A ∷ 0x05 ∷ 0x30 ∷ 0x11 ∷ 0x50 ∷ 0x13 ∷ [])
+    ∷ reads (0x20 ∷ [])
+    ∷ reads (0xC0 ∷ [])
+    ∷ reads (0x40 ∷ [])
+    ∷ reads (0x41 ∷ 0x01 ∷ [])
+    ∷ reads (0xA1 ∷ 0x01 ∷ [])
+    ∷ reads (0x21 ∷ 0x31 ∷ 0x0A ∷ 0x05 ∷ 0x30 ∷ 0x01 ∷ 0x50 ∷ 0x13 ∷ 0xC4 ∷ [])
+    ∷ reads (0x21 ∷ 0x31 ∷ 0x0A ∷ 0x05 ∷ 0x41 ∷ 0x00 ∷ 0x02 ∷ 0x00 ∷ 0x01 ∷ [])
+    ∷ reads (0x21 ∷ 0x31 ∷ 0x0A ∷ 0x02 ∷ 0x31 ∷ 0x11 ∷ [])
+    -- no octets, operations 0 and 7, 256 octets
+    ∷ reads []
+    ∷ reads (0x00 ∷ [])
+    ∷ reads (0xE0 ∷ [])
+    ∷ reads (0xD0 ∷ replicate 255 0)
+    -- parameters: of length 0, none, without a length octet, past the end
+    ∷ reads (0xD0 ∷ 0x07 ∷ 0x00 ∷ [])
+    ∷ reads (0xD0 ∷ [])
+    ∷ reads (0xD0 ∷ 0x07 ∷ [])
+    ∷ reads (0xD0 ∷ 0x07 ∷ 0x02 ∷ 0x00 ∷ [])
+    -- empty contents, a component cut short, a type twice, a forbidden pair
+    ∷ reads (0x21 ∷ 0x31 ∷ 0x0A ∷ 0x00 ∷ [])
+    ∷ reads (0x21 ∷ 0x31 ∷ 0x0A ∷ 0x02 ∷ 0x50 ∷ 0x13 ∷ [])
+    ∷ reads (0x21 ∷ 0x31 ∷ 0x0A ∷ 0x04 ∷ 0x30 ∷ 0x11 ∷ 0x30 ∷ 0x11 ∷ [])
+    ∷ reads (0x21 ∷ 0x31 ∷ 0x0A ∷ 0x08 ∷ 0x50 ∷ 0x13 ∷ 0xC4 ∷ 0x51 ∷ 0x00 ∷ 0x01 ∷ 0x00 ∷ 0x02 ∷ [])
+    -- a second filter with the identifier, or the precedence, of the first; coding is judged before fit, and fit before repeats
+    ∷ reads (0x62 ∷ 0x31 ∷ 0x0A ∷ 0x02 ∷ 0x30 ∷ 0x11 ∷ 0x31 ∷ 0x0B ∷ 0x02 ∷ 0x30 ∷ 0x11 ∷ [])
+    ∷ reads (0x82 ∷ 0x31 ∷ 0x0A ∷ 0x02 ∷ 0x30 ∷ 0x11 ∷ 0x32 ∷ 0x0A ∷ 0x02 ∷ 0x30 ∷ 0x11 ∷ [])
+    ∷ reads (0x62 ∷ 0x31 ∷ 0x0A ∷ 0x05 ∷ 0x41 ∷ 0x00 ∷ 0x02 ∷ 0x00 ∷ 0x01 ∷ 0x31 ∷ 0x0B ∷ 0x00 ∷ [])
+    ∷ reads (0x62 ∷ 0x31 ∷ 0x0A ∷ 0x05 ∷ 0x41 ∷ 0x00 ∷ 0x02 ∷ 0x00 ∷ 0x01 ∷ 0x31 ∷ 0x0B ∷ 0x02 ∷ 0x30 ∷ 0x11 ∷ [])
+    ∷ [])
+    ++ again (0x21 ∷ 0x31 ∷ 0x0A ∷ 0x05 ∷ 0x50 ∷ 0x13 ∷ 0xC4 ∷ 0x30 ∷ 0x11 ∷ [])
+    ++ again (0xA3 ∷ 0xF5 ∷ 0x01 ∷ 0x05 ∷ [])
+    ++ again (0x61 ∷ 0x1F ∷ 0x00 ∷ 0x04 ∷ 0x80 ∷ 0xF1 ∷ 0x02 ∷ 0x03 ∷ [])
+    ≡ (0 ∷ 42 ∷ 42 ∷ 0 ∷ 0 ∷ 42 ∷ 0 ∷ 44 ∷ 44 ∷ 45 ∷ [])
+    ++ (42 ∷ 42 ∷ 42 ∷ 42 ∷ [])
+    ++ (0 ∷ 42 ∷ 42 ∷ 42 ∷ [])
+    ++ (45 ∷ 45 ∷ 45 ∷ 45 ∷ [])
+    ++ (45 ∷ 45 ∷ 45 ∷ 44 ∷ [])
+    ++ (0x21 ∷ 0x31 ∷ 0x0A ∷ 0x05 ∷ 0x30 ∷ 0x11 ∷ 0x50 ∷ 0x13 ∷ 0xC4 ∷ [])
+    ++ (0xA2 ∷ 0x01 ∷ 0x05 ∷ [])
+    ++ (0x61 ∷ 0x1F ∷ 0x00 ∷ 0x04 ∷ 0x80 ∷ 0x01 ∷ 0x02 ∷ 0x03 ∷ [])
+unfolding sameUnder beFrom beBytes every isIn repeats excluded added built held wellCoded emptyPlace validHeader agreesTransport agreesNetwork fits sample fittable noFilters noMarks lengthOf componentOf contentsFrom contentsOf splitOf parameters restFits framedBy framedOf codedOf entriesOf twice laid marked readValue readElement contentsOctets entryOctets entriesFrom entriesOctets marksFrom octetsOf rowGiven marksGiven given
+examples = refl

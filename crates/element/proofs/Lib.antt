@@ -1,0 +1,15 @@
+pub mod Examples
+pub mod Theorems
+pub mod Typed
+mod Reading
+mod Ending
+mod Splitting
+mod Judging
+mod Writing
+mod Rows
+mod Surveys
+mod RoundContents
+mod RoundTrip
+mod Decoded
+mod Laid
+pub mod Given

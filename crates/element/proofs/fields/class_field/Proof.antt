@@ -1,0 +1,18 @@
+-- `element::fields::class_field` meets its contract, by the case that was matched.
+-- Assumes nothing.
+use borrow.Author.Needs.{needs}
+use Rattle.element.proofs.fields.class_field.Statement.{statement}
+use Rattle.element.proofs.fields.class_field.Tie as tie
+
+pub class-field-spec : {M : Type 1} → statement M
+class-field-spec =
+    tie.close
+    (tie.spec
+    (λ c. search needs)
+    (λ c. search needs)
+    (λ c. search needs)
+    (λ c. search needs)
+    (λ c. search needs)
+    (λ c. search needs)
+    (λ c. search needs)
+    (λ c. simp (c .before .x .given .1)))

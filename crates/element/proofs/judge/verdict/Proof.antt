@@ -1,0 +1,19 @@
+-- `element::judge::verdict` meets its contract: the first thing that was found wrong decides.
+-- Assumes nothing.
+use Rattle.element.specs.Read.{noMarks}
+use borrow.Author.Needs.{needs}
+use Rattle.element.proofs.judge.verdict.Statement.{statement}
+use Rattle.element.proofs.judge.verdict.Tie as tie
+
+pub verdict-spec : {M : Type 1} → statement M
+unfolding noMarks
+verdict-spec =
+    tie.close
+    (tie.spec
+    (λ c κs. search needs)
+    (λ c. simp (c .before .if1 .taken) (c .refuse .ensures))
+    (λ c κs. search needs)
+    (λ c. simp (c .before .before .if1 .left, c .before .if2 .taken) (c .refuse2 .ensures))
+    (λ c κs. search needs)
+    (λ c. simp (c .before .before .before .if1 .left, c .before .before .if2 .left, c .before .if3 .taken) (c .refuse3 .ensures))
+    (λ c. rw (c .before .before .before .if1 .left, c .before .before .if2 .left, c .before .if3 .left)))

@@ -1,0 +1,7 @@
+pub mod Contents
+pub mod Framing
+pub mod Read
+pub mod Write
+pub mod Numbers
+pub mod Walk
+pub mod Meaning

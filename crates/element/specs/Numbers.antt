@@ -1,0 +1,26 @@
+-- "Numbers given": document 01's number of a cause, of what the reader gives ("0, or the reader's cause"), and of what the writer gives.
+use Prim.Native.Nat.{ℕ}
+use Rattle.element.specs.declared.answer.Cause.{Cause}
+use Rattle.element.specs.declared.answer.Cause.the-variants.{Operation, Semantics, Coding}
+use Rattle.element.specs.declared.answer.Answer.{Answer}
+use Rattle.element.specs.declared.answer.Answer.the-variants.{Filters, Identifiers, Bare, Refused}
+use Rattle.element.specs.declared.write.Unwritten.the-variants.{NotGiven, TooLong, NoRoom}
+use Rattle.element.specs.declared.write.Written.{Written}
+use Rattle.element.specs.declared.write.Written.the-variants.{Wrote, Refused as refusedTo}
+
+abbrev pub causeNumber : Cause → ℕ
+causeNumber Operation = 42
+causeNumber Semantics = 44
+causeNumber Coding = 45
+
+abbrev pub numberOf : Answer → ℕ
+numberOf (Filters operation) = 0
+numberOf Identifiers = 0
+numberOf (Bare operation) = 0
+numberOf (Refused refusal) = causeNumber (refusal .cause)
+
+abbrev pub writtenNumber : Written → ℕ
+writtenNumber (Wrote n) = 0
+writtenNumber (refusedTo NotGiven) = 10
+writtenNumber (refusedTo TooLong) = 11
+writtenNumber (refusedTo NoRoom) = 9

@@ -1,0 +1,191 @@
+-- How the code walks: what its inner functions give. Nothing here is claimed of the element; the layer's theorems tie it to Read and Write.
+use Prim.Native.Nat.{ℕ, suc, _+_, _-_, _*_, _^_}
+use mathlib.Core.Bool.{Bool, true, false, not, _&&_, _||_}
+use mathlib.Core.List.{List, [], _∷_, _++_}
+use lib.Dec.{eqb, leb, ltb}
+use lib.ListN.{length, take, drop, getD, set, replicate}
+use Rattle.laws.specs.Says.{pick}
+use Rattle.laws.specs.Lists.{fold}
+use Rattle.laws.specs.Octets.{beBytes}
+use Rattle.filter.specs.declared.component.RemoteAddress.{RemoteAddress}
+use Rattle.filter.specs.declared.component.RemoteAddress.the-variants.{Absent as noAddress, V4, V6}
+use Rattle.filter.specs.declared.component.Protocol.{Protocol}
+use Rattle.filter.specs.declared.component.Protocol.the-variants.{Absent as noProtocol, Is as isProtocol}
+use Rattle.filter.specs.declared.component.Port.{Port}
+use Rattle.filter.specs.declared.component.Port.the-variants.{Absent as noPort, Is as isPort, Range}
+use Rattle.filter.specs.declared.component.Index.{Index}
+use Rattle.filter.specs.declared.component.Index.the-variants.{Absent as noIndex, Is as isIndex}
+use Rattle.filter.specs.declared.component.Class.{Class}
+use Rattle.filter.specs.declared.component.Class.the-variants.{Absent as noClass, Masked}
+use Rattle.filter.specs.declared.component.Label.{Label}
+use Rattle.filter.specs.declared.component.Label.the-variants.{Absent as noLabel, Is as isLabel}
+use Rattle.filter.specs.declared.component.Filter.{Filter}
+use Rattle.filter.specs.Build.{excluded, added}
+use Rattle.filter.specs.Coding.{held}
+use Rattle.filter.specs.Fittable.{fittable, placeFine}
+use Rattle.element.specs.declared.answer.SetOperation.{SetOperation}
+use Rattle.element.specs.declared.answer.Cause.the-variants.{Semantics, Coding}
+use Rattle.element.specs.declared.answer.Answer.the-variants.{Filters}
+use Rattle.element.specs.declared.answer.Element.{Element}
+use Rattle.element.specs.declared.contents.Coded.{Coded}
+use Rattle.element.specs.declared.contents.Coded.the-variants.{Badly, Well}
+use Rattle.element.specs.declared.contents.Step.{Step}
+use Rattle.element.specs.declared.contents.Step.the-variants.{Halt, Next}
+use Rattle.element.specs.declared.framing.Place.{Place}
+use Rattle.element.specs.declared.framing.Place.the-variants.{Cut, At}
+use Rattle.element.specs.declared.judge.Judged.{Judged}
+use Rattle.element.specs.declared.survey.Survey.{Survey}
+use Rattle.element.specs.declared.fields.Field.{Field}
+use Rattle.element.specs.declared.fields.Field.the-variants.{No, Narrow, Wide}
+use Rattle.element.specs.Read.{noFilters, noMarks, refused, Entry, codedOf}
+use Rattle.element.specs.Contents.{lengthOf, known, componentOf}
+use Rattle.element.specs.Framing.{Raw, identifierOf, Split, cut, split}
+use Rattle.element.specs.Write.{addressBytes, entryOctets}
+
+-- ---- one component at a place of the contents
+abbrev pub stepBy : ℕ → ℕ → Filter → List ℕ → ℕ → Step
+stepBy t w f s at =
+    pick (known t && not (excluded f t) && leb w (length s - (at + 1))) (Next (added f (componentOf t (take w (drop (at + 1) s)))) (at + 1 + w)) Halt
+
+unfoldable pub stepAt : Filter → List ℕ → ℕ → Step
+stepAt f s at = stepBy (getD s at 0) (lengthOf (getD s at 0)) f s at
+
+-- ---- the end of a part: some octets, its length, as many octets
+abbrev pub partBy : ℕ → ℕ → ℕ → Place
+partBy total from l = pick (leb l (total - from)) (At (from + l)) Cut
+
+unfoldable pub partEnd : List ℕ → ℕ → ℕ → Place
+partEnd s at skip = pick (ltb (at + skip) (length s)) (partBy (length s) (at + skip + 1) (getD s (at + skip) 0)) Cut
+
+-- the end of a value's filters
+abbrev pub placeOf : ℕ → Split → Place
+placeOf total cut = Cut
+placeOf total (split rs rest) = At (total - length rest)
+
+abbrev pub whole : Split → Bool
+whole cut = false
+whole (split rs rest) = true
+
+-- ---- the filters of a value, one after the other
+abbrev pub rawAt : List ℕ → ℕ → Raw
+rawAt s at = record { first = getD s at 0; precedence = getD s (at + 1) 0; contents = take (getD s (at + 2) 0) (drop (at + 3) s) }
+
+abbrev pub precedenceCount : ℕ
+precedenceCount = 256
+
+unfoldable pub noPrecedences : List Bool
+noPrecedences = replicate precedenceCount false
+
+abbrev pub judgeStart : Judged
+judgeStart = record { row = noFilters; identifiers = noMarks; precedences = noPrecedences; badly = false; unfit = false; repeated = false }
+
+abbrev pub judgedWith : Judged → ℕ → Coded → Judged
+judgedWith st identifier Badly =
+    record {
+      row = st .row;
+      identifiers = st .identifiers;
+      precedences = st .precedences;
+      badly = true;
+      unfit = st .unfit;
+      repeated = st .repeated;
+    }
+judgedWith st identifier (Well f) =
+    record {
+      row = set (st .row) identifier f;
+      identifiers = set (st .identifiers) identifier true;
+      precedences = set (st .precedences) (f .precedence) true;
+      badly = st .badly;
+      unfit = st .unfit || not (fittable f);
+      repeated = st .repeated || getD (st .identifiers) identifier false || getD (st .precedences) (f .precedence) false;
+    }
+
+unfoldable pub judgedRaw : Judged → Raw → Judged
+judgedRaw st r = judgedWith st (identifierOf r) (codedOf r)
+
+abbrev pub judgedSplit : Judged → Split → Judged
+judgedSplit st cut = st
+judgedSplit st (split rs rest) = fold judgedRaw st rs
+
+abbrev pub verdictOf : SetOperation → Judged → Element
+verdictOf operation st =
+    pick (st .badly) (refused Coding)
+    (pick (st .unfit) (refused Semantics)
+    (pick (st .repeated) (refused Coding) (record { answer = Filters operation; filters = st .row; marks = noMarks })))
+
+-- ---- what a row holds, place by place
+abbrev pub surveyStart : Survey
+surveyStart = record { count = 0; given = true; repeated = false; precedences = noPrecedences }
+
+abbrev pub surveyedBy : Bool → Survey → Filter → Survey
+surveyedBy true st f =
+    record {
+      count = st .count + 1;
+      given = st .given && placeFine f;
+      repeated = st .repeated || getD (st .precedences) (f .precedence) false;
+      precedences = set (st .precedences) (f .precedence) true;
+    }
+surveyedBy false st f =
+    record { count = st .count; given = st .given && placeFine f; repeated = st .repeated; precedences = st .precedences }
+
+unfoldable pub surveyed : Survey → Filter → Survey
+surveyed st f = surveyedBy (held f) st f
+
+-- ---- a filter's components as they are written: a type with a number of its length, or IPv6 addresses
+abbrev pub fieldOctets : Field → List ℕ
+fieldOctets No = []
+fieldOctets (Narrow t v) = t ∷ beBytes (lengthOf t) v
+fieldOctets (Wide address mask) = 0x20 ∷ addressBytes address ++ addressBytes mask
+
+-- a type's number has at most eight octets
+abbrev pub narrow : Field → Bool
+narrow No = true
+narrow (Narrow t v) = leb (lengthOf t) 8
+narrow (Wide address mask) = true
+
+abbrev pub remoteField : RemoteAddress → Field
+remoteField noAddress = No
+remoteField (V4 address mask) = Narrow 0x10 (address * 2 ^ 32 + mask)
+remoteField (V6 address mask) = Wide address mask
+
+abbrev pub protocolField : Protocol → Field
+protocolField noProtocol = No
+protocolField (isProtocol x) = Narrow 0x30 x
+
+abbrev pub portField : ℕ → ℕ → Port → Field
+portField one range noPort = No
+portField one range (isPort x) = Narrow one x
+portField one range (Range low high) = Narrow range (low * 2 ^ 16 + high)
+
+abbrev pub indexField : Index → Field
+indexField noIndex = No
+indexField (isIndex x) = Narrow 0x60 x
+
+abbrev pub classField : Class → Field
+classField noClass = No
+classField (Masked x mask) = Narrow 0x70 (x * 2 ^ 8 + mask)
+
+abbrev pub labelField : Label → Field
+labelField noLabel = No
+labelField (isLabel x) = Narrow 0x80 x
+
+abbrev pub fieldsOf : Filter → List Field
+fieldsOf f =
+    remoteField (f .address)
+    ∷ protocolField (f .protocol)
+    ∷ portField 0x40 0x41 (f .local)
+    ∷ portField 0x50 0x51 (f .remote)
+    ∷ indexField (f .index)
+    ∷ classField (f .class)
+    ∷ labelField (f .label)
+    ∷ []
+
+unfoldable pub fieldsOctets : List Field → List ℕ
+fieldsOctets [] = []
+fieldsOctets (x ∷ xs) = fieldOctets x ++ fieldsOctets xs
+
+-- ---- a place of a row, or of the marks, as it is written
+unfoldable pub placeOctets : ℕ → Filter → List ℕ
+placeOctets i f = pick (held f) (entryOctets (record { identifier = i; filter = f })) []
+
+abbrev pub markOctets : ℕ → Bool → List ℕ
+markOctets i m = pick m (i ∷ []) []

@@ -1,0 +1,79 @@
+// What the reader gives and the writer takes.
+ghost use mathlib.Core.Path.{_≡_};
+ghost use mathlib.Core.List.{List};
+ghost use Rattle.element.specs.Numbers.{numberOf};
+ghost use Rattle.element.specs.Read.{withoutSets, refused};
+use filter::Filter;
+
+pub const PLACES: usize = 16;
+
+pub enum SetOperation {
+    Create,
+    Add,
+    Replace,
+}
+
+pub enum BareOperation {
+    DeleteTft,
+    NoOperation,
+}
+
+// 42, 44 and 45 of document 01.
+pub enum Cause {
+    Operation,
+    Semantics,
+    Coding,
+}
+
+pub struct Refusal {
+    pub cause: Cause,
+}
+
+pub enum Answer {
+    Filters(SetOperation),
+    Identifiers,
+    Bare(BareOperation),
+    Refused(Refusal),
+}
+
+// The filter with identifier n stands in place n, and so does the mark of identifier n; what the answer does not use is empty.
+pub struct Element {
+    pub answer: Answer,
+    pub filters: [Filter; PLACES],
+    pub marks: [bool; PLACES],
+}
+
+// Document 01's number: 0, or the cause.
+pub fn number(answer: Answer) -> u8
+    ensures { λ r. ⌜ r ≡ numberOf answer ⌝ }
+{
+    match answer {
+        Answer::Filters(_) => 0,
+        Answer::Identifiers => 0,
+        Answer::Bare(_) => 0,
+        Answer::Refused(refusal) => {
+            let cause = refusal.cause;
+            match cause {
+                Cause::Operation => 42,
+                Cause::Semantics => 44,
+                Cause::Coding => 45,
+            }
+        }
+    }
+}
+
+pub(crate) fn without_sets(answer: Answer) -> Element
+    ensures { λ r. ⌜ r ≡ withoutSets answer ⌝ }
+{
+    Element {
+        answer,
+        filters: [Filter::bare(0, 0); PLACES],
+        marks: [false; PLACES],
+    }
+}
+
+pub(crate) fn refuse(cause: Cause) -> Element
+    ensures { λ r. ⌜ r ≡ refused cause ⌝ }
+{
+    without_sets(Answer::Refused(Refusal { cause }))
+}

@@ -1,0 +1,43 @@
+-- Tests and lists said by index, over any element type.
+use Prim.Native.Nat.{ℕ, zero, suc, _<_}
+use mathlib.Core.Bool.{Bool, true, false, not, _&&_, _||_}
+use mathlib.Core.List.{List, [], _∷_, _++_}
+use lib.ListN.{set}
+use Rattle.laws.specs.Says.{pick}
+
+-- where a, then b
+abbrev pub imp : Bool → Bool → Bool
+imp a b = not a || b
+
+module _ (p : ℕ → Bool) where
+  -- p of every index below n
+  unfoldable pub allBelow : ℕ → Bool
+  allBelow zero = true
+  allBelow (suc n) = allBelow n && p n
+
+  -- p of some index below n
+  unfoldable pub anyBelow : ℕ → Bool
+  anyBelow zero = false
+  anyBelow (suc n) = anyBelow n || p n
+
+  -- what g calls the indices below n with p, in their order
+  unfoldable pub picks : (ℕ → ℕ) → ℕ → List ℕ
+  picks g zero = []
+  picks g (suc n) = picks g n ++ pick (p n) (g n ∷ []) []
+
+-- f at each index below n
+unfoldable pub tab : {A : Type 0} → (ℕ → A) → ℕ → List A
+tab f zero = []
+tab f (suc n) = f 0 ∷ tab (λ i. f (suc i)) n
+
+-- the first n elements, zero beyond the end
+unfoldable pub pad : ℕ → List ℕ → List ℕ
+pad zero xs = []
+pad (suc n) [] = 0 ∷ pad n []
+pad (suc n) (x ∷ xs) = x ∷ pad n xs
+
+-- an index below n with P
+pub record SomeBelow (n : ℕ) (P : ℕ → Type 0) : Type 0 where
+  pub at : ℕ
+  pub below : at < n
+  pub holds : P at

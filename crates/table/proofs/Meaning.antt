@@ -1,0 +1,165 @@
+-- The test of a well-formed table says that it is well formed.
+use mathlib.Core.Path.{_≡_, refl, sym, _∙_, ap, subst}
+use mathlib.Core.Bool.{Bool, true, false, _&&_, _||_, false≢true}
+use mathlib.Core.Logic.{_⊎_, inl, inr, ⊎-elim}
+use Prim.Native.Nat.{ℕ, _<_, _≤_}
+use native.Mathlib.Omega.{arith}
+use lib.Dec.{leb}
+use Rattle.laws.specs.Says.{pick, Says}
+use Rattle.laws.specs.Index.{allBelow}
+use Rattle.laws.proofs.Typed.{each-at}
+use Rattle.laws.proofs.Tests.{both, either, or-true}
+use Rattle.laws.proofs.Says.{says-it, says-true, says-eq, says-le, says-and, says-if, says-unless, says-all, says-so, which, never}
+use Rattle.filter.specs.declared.component.Filter.{Filter}
+use Rattle.filter.specs.Ranges.{FilterInRange}
+use Rattle.filter.specs.Coding.{held, wellCoded, emptyPlace}
+use Rattle.filter.specs.Fittable.{fittable, placeFine, SomePacketFits}
+use Rattle.filter.proofs.Empty.{empty-says}
+use Rattle.filter.proofs.Theorems.{fittable-says}
+use Rattle.table.specs.declared.bearer.Role.{Role}
+use Rattle.table.specs.declared.bearer.Role.the-variants.{Idle, Default, Dedicated}
+use Rattle.table.specs.declared.bearer.Table.{Table}
+use Rattle.table.specs.Bearers.{firstIdentity, lastIdentity, bearerCount, placeCount, lastTransaction, inRange, indexOf, emptyFilter, noBearer, bearerAt, roleAt, transactionAt, filterAt, connectionAt, isIdle, isDefault, isDedicated, roleOf}
+use Rattle.table.specs.Ranges.{TableInRange}
+use Rattle.table.specs.WellFormed.{linkFine, filterFine, bearerFine, transactionsApart, transactionFrom, distinctTransactions, apartAt, apartFrom, rowsApart, bearersApart, bearerFrom, distinctPrecedences, wellFormed, Held, Well, WellFormed}
+
+-- no two roles are one
+unlike : {A : Type 0} → _≡_ {A = ℕ} 0 1 → A
+unlike e = absurd (let z : ⊥ = omega arith in z)
+
+pub idle-says : (r : Role) → Says (isIdle r) (r ≡ Idle)
+idle-says Idle = says-true refl
+idle-says Default = record { to = λ e. absurd (false≢true e); from = λ e. unlike (cc) }
+idle-says (Dedicated link) = record { to = λ e. absurd (false≢true e); from = λ e. unlike (cc) }
+
+pub default-says : (r : Role) → Says (isDefault r) (r ≡ Default)
+default-says Idle = record { to = λ e. absurd (false≢true e); from = λ e. unlike (cc) }
+default-says Default = says-true refl
+default-says (Dedicated link) = record { to = λ e. absurd (false≢true e); from = λ e. unlike (cc) }
+
+pub dedicated-says : (r : Role) → Says (isDedicated r) ((link : ℕ) × (r ≡ Dedicated link))
+dedicated-says Idle = record { to = λ e. absurd (false≢true e); from = λ e. let h = e .1 in unlike (cc) }
+dedicated-says Default = record { to = λ e. absurd (false≢true e); from = λ e. let h = e .1 in unlike (cc) }
+dedicated-says (Dedicated link) = says-true (link, refl)
+
+pub range-says : (identity : ℕ) → Says (inRange identity) ((firstIdentity ≤ identity) × (identity ≤ lastIdentity))
+range-says identity = says-and (says-le firstIdentity identity) (says-le identity lastIdentity)
+
+-- ---- a place
+-- what a place may hold: nothing at all, or a filter that is well coded and that some packet fits
+pub record Fine (f : Filter) : Type 0 where
+  pub zeroed : (Held f → ⊥) → f ≡ emptyFilter
+  pub coded : Held f → wellCoded f ≡ true
+  pub fitted : Held f → SomePacketFits f
+
+held-coded : (f : Filter) → wellCoded f ≡ true → held f ≡ true
+unfolding wellCoded
+held-coded f e = both (held f) _ (both _ _ e .0) .0
+
+unheld : held emptyFilter ≡ false
+unfolding held
+unheld = refl
+
+pub place-says : (f : Filter) → FilterInRange f → Says (placeFine f) (Fine f)
+place-says f r = record { to = λ e. ⊎-elim nothing something (either (emptyPlace f) (wellCoded f && fittable f) e); from = λ h. from h (which (held f)) }
+  where
+    nothing : emptyPlace f ≡ true → Fine f
+    nothing e =
+        let z = empty-says f .to e in
+        let n : held f ≡ false = ap held z ∙ unheld in
+        record { zeroed = λ _. z; coded = λ h. never h n; fitted = λ h. never h n }
+
+    something : wellCoded f && fittable f ≡ true → Fine f
+    something e =
+        let h = both (wellCoded f) (fittable f) e in
+        record { zeroed = λ n. absurd (n (held-coded f (h .0))); coded = λ _. h .0; fitted = λ _. fittable-says f r .to (h .1) }
+
+    from : Fine f → (held f ≡ true) ⊎ (held f ≡ false) → placeFine f ≡ true
+    from h (inl e) = rw (h .coded e, fittable-says f r .from (h .fitted e)) (or-true (emptyPlace f))
+    from h (inr e) = rw (empty-says f .from (h .zeroed (λ q. never q e)))
+
+-- ---- the table
+module _ (t : Table) (ok : TableInRange t) where
+  filter-ok : (i j : ℕ) → i < bearerCount → j < placeCount → FilterInRange (filterAt t i j)
+  filter-ok i j l m = each-at (each-at (ok .bearers) noBearer i l .row) emptyFilter j m
+
+  abbrev Linked : Role → Type 0
+  Linked r = (link : ℕ) → r ≡ Dedicated link → (firstIdentity ≤ link) × (link ≤ lastIdentity) × (roleAt t (indexOf link) ≡ Default)
+
+  -- an identity whose role is default is in range
+  default-of : (link : ℕ) → Says (isDefault (roleOf t link)) ((firstIdentity ≤ link) × (link ≤ lastIdentity) × (roleAt t (indexOf link) ≡ Default))
+  default-of link = go (inRange link) refl
+    where
+      go : (b : Bool) → inRange link ≡ b → Says (isDefault (pick b (roleAt t (indexOf link)) Idle)) ((firstIdentity ≤ link) × (link ≤ lastIdentity) × (roleAt t (indexOf link) ≡ Default))
+      go true e =
+          let r = range-says link .to e in
+          says-so (default-says (roleAt t (indexOf link))) (λ d. (r .0, r .1, d)) (λ h. h .2)
+      go false e = record { to = λ q. absurd (false≢true q); from = λ h. absurd (false≢true (sym e ∙ range-says link .from (h .0, h .1))) }
+
+  link-says : (r : Role) → Says (linkFine t r) (Linked r)
+  link-says Idle = says-true (λ link e. unlike (cc))
+  link-says Default = says-true (λ link e. unlike (cc))
+  link-says (Dedicated link) =
+      says-so (default-of link)
+      (λ h other e. let q : link ≡ other = cc in subst (λ (y : ℕ). (firstIdentity ≤ y) × (y ≤ lastIdentity) × (roleAt t (indexOf y) ≡ Default)) q h)
+      (λ h. h link refl)
+
+  -- what the test says of one bearer
+  abbrev Alone : ℕ → Type 0
+  Alone i =
+      (((roleAt t i ≡ Idle → transactionAt t i ≡ 0) × (transactionAt t i ≤ lastTransaction)) × Linked (roleAt t i))
+      × ((j : ℕ) → j < placeCount → (roleAt t i ≡ Idle → filterAt t i j ≡ emptyFilter) × Fine (filterAt t i j))
+
+  alone-says : (i : ℕ) → i < bearerCount → Says (bearerFine t i) (Alone i)
+  unfolding bearerFine filterFine
+  alone-says i l =
+      let idle = idle-says (roleAt t i) in
+      says-and (says-and (says-and (says-if idle (says-eq (transactionAt t i) 0)) (says-le (transactionAt t i) lastTransaction)) (link-says (roleAt t i)))
+      (says-all placeCount (λ j m. says-and (says-if idle (empty-says (filterAt t i j))) (place-says (filterAt t i j) (filter-ok i j l m))))
+
+  -- what it says of two
+  abbrev Single : ℕ → ℕ → Type 0
+  Single i k = (transactionAt t i ≡ 0 → ⊥) → transactionAt t i ≡ transactionAt t k → i ≡ k
+
+  single-says : Says (distinctTransactions t) ((i : ℕ) → i < bearerCount → (k : ℕ) → k < bearerCount → Single i k)
+  unfolding distinctTransactions transactionFrom transactionsApart
+  single-says =
+      says-all bearerCount (λ i l. says-all bearerCount (λ k m.
+      says-unless (says-eq (transactionAt t i) 0) (says-if (says-eq (transactionAt t i) (transactionAt t k)) (says-eq i k))))
+
+  abbrev Apart : (i k j l : ℕ) → Type 0
+  Apart i k j l = Held (filterAt t i j) → Held (filterAt t k l) → filterAt t i j .precedence ≡ filterAt t k l .precedence → (i ≡ k) × (j ≡ l)
+
+  pub apart-says : Says (distinctPrecedences t) ((i : ℕ) → i < bearerCount → (k : ℕ) → k < bearerCount → connectionAt t i ≡ connectionAt t k
+      → (j : ℕ) → j < placeCount → (l : ℕ) → l < placeCount → Apart i k j l)
+  unfolding distinctPrecedences bearerFrom bearersApart rowsApart apartFrom apartAt
+  apart-says =
+      says-all bearerCount (λ i a. says-all bearerCount (λ k b.
+      says-if (says-eq (connectionAt t i) (connectionAt t k)) (says-all placeCount (λ j m. says-all placeCount (λ l n.
+      says-if (says-it (held (filterAt t i j))) (says-if (says-it (held (filterAt t k l)))
+      (says-if (says-eq (filterAt t i j .precedence) (filterAt t k l .precedence)) (says-and (says-eq i k) (says-eq j l)))))))))
+
+  -- the test is true exactly for the well-formed tables of document 01
+  pub well-says : Says (wellFormed t) (WellFormed t)
+  unfolding wellFormed
+  well-says =
+      says-so (says-and (says-and (says-all bearerCount alone-says) single-says) apart-says)
+      (λ h.
+      record {
+        silent = λ i l. h .0 .0 i l .0 .0 .0;
+        empty = λ i j l m. h .0 .0 i l .1 j m .0;
+        linked = λ i link l. h .0 .0 i l .0 .1 link;
+        small = λ i l. h .0 .0 i l .0 .0 .1;
+        single = λ i k l m. h .0 .1 i l k m;
+        zeroed = λ i j l m. h .0 .0 i l .1 j m .1 .zeroed;
+        coded = λ i j l m. h .0 .0 i l .1 j m .1 .coded;
+        fitted = λ i j l m. h .0 .0 i l .1 j m .1 .fitted;
+        distinct = λ i k j l a b c d e. h .1 i a k b e j c l d;
+      })
+      (λ w. (
+        (
+          λ i l. (((w .silent i l, w .small i l), λ link. w .linked i link l), λ j m. (w .empty i j l m, record { zeroed = w .zeroed i j l m; coded = w .coded i j l m; fitted = w .fitted i j l m })),
+          λ i l k m. w .single i k l m,
+        ),
+        λ i a k b e j c l d. w .distinct i k j l a b c d e,
+      ))

@@ -1,0 +1,96 @@
+-- "A table is well formed if all that holds, idle bearers hold nothing, unused fields are zero, precedences are distinct within a connection,
+-- and each filter is well coded .. and fits some packet."
+use mathlib.Core.Path.{_≡_}
+use Prim.Native.Nat.{ℕ, _≤_, _<_}
+use mathlib.Core.Bool.{Bool, true, not, _&&_, _||_}
+use mathlib.Core.List.{List}
+use lib.Dec.{eqb, leb}
+use Rattle.laws.specs.Index.{imp, allBelow}
+use Rattle.filter.specs.declared.component.Filter.{Filter}
+use Rattle.filter.specs.Coding.{held, wellCoded, emptyPlace}
+use Rattle.filter.specs.Fittable.{placeFine, SomePacketFits}
+use Rattle.table.specs.declared.bearer.Role.{Role}
+use Rattle.table.specs.declared.bearer.Role.the-variants.{Idle, Default, Dedicated}
+use Rattle.table.specs.declared.bearer.Table.{Table}
+use Rattle.table.specs.Bearers.{firstIdentity, lastIdentity, bearerCount, placeCount, lastTransaction, inRange, indexOf, emptyFilter, bearerAt, inRow, roleAt, transactionAt, filterAt, View, view, isIdle, isDefault, roleOf, connectionOf, connectionAt}
+
+-- ---- The test, one bearer at a time
+-- "dedicated and linked to an active default"
+abbrev pub linkFine : Table → Role → Bool
+linkFine t Idle = true
+linkFine t Default = true
+linkFine t (Dedicated link) = isDefault (roleOf t link)
+
+-- "Each active bearer has at most one open transaction, identity 1 to 254"
+abbrev pub transactionFine : Bool → ℕ → Bool
+transactionFine idle x = imp idle (eqb x 0) && leb x lastTransaction
+
+-- "idle bearers hold nothing"
+unfoldable pub filterFine : Bool → List Filter → ℕ → Bool
+filterFine idle row j = imp idle (emptyPlace (inRow row j)) && placeFine (inRow row j)
+
+unfoldable pub bearerFine : Table → ℕ → Bool
+bearerFine t i =
+    transactionFine (isIdle (roleAt t i)) (transactionAt t i) && linkFine t (roleAt t i)
+    && allBelow (filterFine (isIdle (roleAt t i)) (bearerAt t i .row)) placeCount
+
+-- ---- two bearers at a time
+-- "all distinct", of open transactions
+unfoldable pub transactionsApart : Table → ℕ → ℕ → Bool
+transactionsApart t i k = eqb (transactionAt t i) 0 || imp (eqb (transactionAt t i) (transactionAt t k)) (eqb i k)
+
+unfoldable pub transactionFrom : Table → ℕ → Bool
+transactionFrom t i = allBelow (transactionsApart t i) bearerCount
+
+unfoldable pub distinctTransactions : Table → Bool
+distinctTransactions t = allBelow (transactionFrom t) bearerCount
+
+-- "precedences are distinct within a connection": two held filters of one precedence stand in one place
+abbrev pub apart : Bool → Filter → Filter → Bool
+apart same f g = imp (held f) (imp (held g) (imp (eqb (f .precedence) (g .precedence)) same))
+
+unfoldable pub apartAt : Bool → List Filter → List Filter → ℕ → ℕ → Bool
+apartAt same row other j l = apart (same && eqb j l) (inRow row j) (inRow other l)
+
+unfoldable pub apartFrom : Bool → List Filter → List Filter → ℕ → Bool
+apartFrom same row other j = allBelow (apartAt same row other j) placeCount
+
+unfoldable pub rowsApart : Bool → List Filter → List Filter → Bool
+rowsApart same row other = allBelow (apartFrom same row other) placeCount
+
+unfoldable pub bearersApart : Table → ℕ → ℕ → Bool
+bearersApart t i k = imp (eqb (connectionAt t i) (connectionAt t k)) (rowsApart (eqb i k) (bearerAt t i .row) (bearerAt t k .row))
+
+unfoldable pub bearerFrom : Table → ℕ → Bool
+bearerFrom t i = allBelow (bearersApart t i) bearerCount
+
+unfoldable pub distinctPrecedences : Table → Bool
+distinctPrecedences t = allBelow (bearerFrom t) bearerCount
+
+unfoldable pub wellFormed : Table → Bool
+wellFormed t = allBelow (bearerFine t) bearerCount && distinctTransactions t && distinctPrecedences t
+
+-- ---- What the test says: the theorem `well-says`
+abbrev pub Held : Filter → Type 0
+Held f = held f ≡ true
+
+pub record Well (v : View) : Type 0 where
+  -- an idle bearer has no transaction and holds nothing
+  pub silent : (i : ℕ) → i < bearerCount → v .role i ≡ Idle → v .transaction i ≡ 0
+  pub empty : (i j : ℕ) → i < bearerCount → j < placeCount → v .role i ≡ Idle → v .filter i j ≡ emptyFilter
+  -- a dedicated bearer is linked to an active default
+  pub linked : (i link : ℕ) → i < bearerCount → v .role i ≡ Dedicated link → (firstIdentity ≤ link) × (link ≤ lastIdentity) × (v .role (indexOf link) ≡ Default)
+  -- transactions are at most 254, and each is open on one bearer
+  pub small : (i : ℕ) → i < bearerCount → v .transaction i ≤ lastTransaction
+  pub single : (i k : ℕ) → i < bearerCount → k < bearerCount → (v .transaction i ≡ 0 → ⊥) → v .transaction i ≡ v .transaction k → i ≡ k
+  -- a place that holds no filter is all zero; a filter is well coded, and there is a packet that fits it
+  pub zeroed : (i j : ℕ) → i < bearerCount → j < placeCount → (Held (v .filter i j) → ⊥) → v .filter i j ≡ emptyFilter
+  pub coded : (i j : ℕ) → i < bearerCount → j < placeCount → Held (v .filter i j) → wellCoded (v .filter i j) ≡ true
+  pub fitted : (i j : ℕ) → i < bearerCount → j < placeCount → Held (v .filter i j) → SomePacketFits (v .filter i j)
+  -- two filters of one connection with one precedence are the same
+  pub distinct : (i k j l : ℕ) → i < bearerCount → k < bearerCount → j < placeCount → l < placeCount
+      → connectionOf i (v .role i) ≡ connectionOf k (v .role k) → Held (v .filter i j) → Held (v .filter k l)
+      → v .filter i j .precedence ≡ v .filter k l .precedence → (i ≡ k) × (j ≡ l)
+
+abbrev pub WellFormed : Table → Type 0
+WellFormed t = Well (view t)

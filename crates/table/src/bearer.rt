@@ -1,0 +1,140 @@
+// Bearers and the table of them.
+ghost use mathlib.Core.Path.{_≡_};
+ghost use Prim.Native.Nat.{_-_, _≤_, _<_};
+ghost use Rattle.table.specs.Bearers.{emptyTable, isIdle, isDefault, isDedicated, inRange, indexOf, roleAt, connectionOf, connectionAt, roleOf};
+use filter::Filter;
+
+pub const FIRST_IDENTITY: u8 = 5;
+
+pub const LAST_IDENTITY: u8 = 15;
+
+pub const BEARERS: usize = 11;
+
+pub const PLACES: usize = 16;
+
+// A dedicated bearer is linked to the default with that identity.
+pub enum Role {
+    Idle,
+    Default,
+    Dedicated(u8),
+}
+
+// `transaction` is 0 where none is open; the filter with identifier n stands in place n of the row.
+pub struct Bearer {
+    pub role: Role,
+    pub transaction: u8,
+    pub row: [Filter; PLACES],
+}
+
+// The bearer with identity FIRST_IDENTITY stands first.
+pub struct Table {
+    pub bearers: [Bearer; BEARERS],
+}
+
+pub fn empty_table() -> Table
+    ensures { λ r. ⌜ r ≡ emptyTable ⌝ }
+{
+    let idle = Bearer {
+        role: Role::Idle,
+        transaction: 0,
+        row: [Filter::bare(0, 0); PLACES],
+    };
+    Table {
+        bearers: [idle; BEARERS],
+    }
+}
+
+pub fn is_idle(role: Role) -> bool
+    ensures { λ r. ⌜ r ≡ isIdle role ⌝ }
+{
+    match role {
+        Role::Idle => true,
+        Role::Default => false,
+        Role::Dedicated(_) => false,
+    }
+}
+
+pub fn is_default(role: Role) -> bool
+    ensures { λ r. ⌜ r ≡ isDefault role ⌝ }
+{
+    match role {
+        Role::Idle => false,
+        Role::Default => true,
+        Role::Dedicated(_) => false,
+    }
+}
+
+pub fn is_dedicated(role: Role) -> bool
+    ensures { λ r. ⌜ r ≡ isDedicated role ⌝ }
+{
+    match role {
+        Role::Idle => false,
+        Role::Default => false,
+        Role::Dedicated(_) => true,
+    }
+}
+
+pub fn in_range(identity: u8) -> bool
+    ensures { λ r. ⌜ r ≡ inRange identity ⌝ }
+{
+    (FIRST_IDENTITY <= identity) & (identity <= LAST_IDENTITY)
+}
+
+// The index of a bearer's identity; 0 below the first.
+pub fn index_of(identity: u8) -> usize
+    ensures { λ r. ⌜ r ≡ indexOf identity ⌝ }
+{
+    if identity < FIRST_IDENTITY {
+        0
+    } else {
+        identity as usize - 5
+    }
+}
+
+// Of an index past the end: idle.
+pub fn role_at(t: Table, i: usize) -> Role
+    ensures { λ r. ⌜ r ≡ roleAt t i ⌝ }
+{
+    if i < BEARERS {
+        let b = t.bearers[i];
+        b.role
+    } else {
+        Role::Idle
+    }
+}
+
+// Of an identity out of range: idle.
+pub fn role_of(t: Table, identity: u8) -> Role
+    ensures { λ r. ⌜ r ≡ roleOf t identity ⌝ }
+{
+    if in_range(identity) {
+        role_at(t, index_of(identity))
+    } else {
+        Role::Idle
+    }
+}
+
+// The connection of a bearer: its default's identity, 0 of an idle one.
+pub(crate) fn connection_of(i: usize, role: Role) -> u8
+    requires { ⌜ i ≤ 250 ⌝ }
+    ensures { λ r. ⌜ r ≡ connectionOf i role ⌝ }
+{
+    match role {
+        Role::Idle => 0,
+        Role::Default => i as u8 + FIRST_IDENTITY,
+        Role::Dedicated(link) => link,
+    }
+}
+
+// Of an index past the end: 0.
+pub fn connection_at(t: Table, i: usize) -> u8
+    ensures { λ r. ⌜ r ≡ connectionAt t i ⌝ }
+{
+    if i < BEARERS {
+        let b = t.bearers[i];
+        let role = b.role;
+        connection_of(i, role)
+    } else {
+        0
+    }
+}

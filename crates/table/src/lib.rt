@@ -1,0 +1,8 @@
+// The bearers of a module, their connections and transactions, and whether a table of them is well formed.
+pub mod bearer;
+pub mod distinct;
+pub mod well_formed;
+
+pub use bearer::Bearer;
+pub use bearer::Role;
+pub use bearer::Table;
