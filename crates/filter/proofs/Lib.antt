@@ -1,4 +1,5 @@
 pub mod Adding
+pub mod Empty
 pub mod Examples
 pub mod Samples
 pub mod Theorems

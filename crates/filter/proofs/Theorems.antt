@@ -161,7 +161,7 @@ label-put f (index x) e t = e
 label-put f (class x mask) e t = e
 label-put f (label x) e t = le-leb x largestLabel (ltb-false largestLabel x t)
 
-label-added : (f : Filter) (c : Component) → labelFits (f .label) ≡ true → labelFits (added f c .label) ≡ true
+pub label-added : (f : Filter) (c : Component) → labelFits (f .label) ≡ true → labelFits (added f c .label) ≡ true
 unfolding added
 label-added f c e = go (tooLarge c || excluded f (typeOf c)) refl
   where

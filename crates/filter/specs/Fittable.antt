@@ -19,6 +19,7 @@ use Rattle.filter.specs.declared.component.Label.the-variants.{Absent as
 use Rattle.filter.specs.declared.component.Filter.{Filter}
 use Rattle.filter.specs.declared.packet.Header.{Header}
 use Rattle.filter.specs.Component.{localType, remoteType, indexType, present}
+use Rattle.filter.specs.Coding.{wellCoded, emptyPlace}
 use Rattle.filter.specs.Fit.{validHeader, fits}
 use Rattle.filter.specs.Ranges.{HeaderInRange}
 
@@ -79,3 +80,7 @@ sample f =
 -- some packet fits exactly where this one does: the theorem `fittable-says`
 unfoldable pub fittable : Filter → Bool
 fittable f = validHeader (sample f) && fits f (sample f)
+
+-- ---- "each filter is well coded .. and fits some packet", "unused fields are zero": what may stand in a place
+abbrev pub placeFine : Filter → Bool
+placeFine f = emptyPlace f || (wellCoded f && fittable f)

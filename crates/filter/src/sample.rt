@@ -1,7 +1,9 @@
 // Whether any packet fits a filter: the packet that the filter itself describes does, or none.
 ghost use mathlib.Core.Path.{_≡_};
 ghost use mathlib.Core.Bool.{Bool};
-ghost use Rattle.filter.specs.Fittable.{sampleVersion, sampleAddress, sampleProtocol, samplePort, sampleIndex, sampleClass, sampleLabel, sample, fittable};
+ghost use Rattle.filter.specs.Fittable.{sampleVersion, sampleAddress, sampleProtocol, samplePort, sampleIndex, sampleClass, sampleLabel, sample, fittable, placeFine};
+use crate::coding::empty_place;
+use crate::coding::well_coded;
 use crate::component::Address;
 use crate::component::Class;
 use crate::component::Filter;
@@ -141,4 +143,11 @@ pub fn fittable(filter: Filter) -> bool
 {
     let header = sample_of(filter);
     valid_header(header) & fits(filter, header)
+}
+
+// Whether the filter may stand in a place of a row: an empty one, or one that is well coded and fits some packet.
+pub fn place_fine(filter: Filter) -> bool
+    ensures { λ r. ⌜ r ≡ placeFine filter ⌝ }
+{
+    empty_place(filter) | (well_coded(filter) & fittable(filter))
 }
