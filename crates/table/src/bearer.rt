@@ -87,7 +87,7 @@ pub fn index_of(identity: u8) -> usize
     if identity < FIRST_IDENTITY {
         0
     } else {
-        identity as usize - 5
+        identity as usize - FIRST_IDENTITY as usize
     }
 }
 
