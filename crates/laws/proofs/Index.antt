@@ -11,7 +11,7 @@ use mathlib.Core.List.{List, [], _∷_, _++_, append-nil}
 use lib.ListN.{length, getD, set, length-set, length-append, List·getD-append}
 use lib.Seq.{getD-set-same, getD-set-other, ext-getD, getD-append-seam}
 use Rattle.laws.specs.Says.{pick}
-use Rattle.laws.specs.Index.{allBelow, anyBelow, SomeBelow, picks, tab, pad}
+use Rattle.laws.specs.Index.{allBelow, anyBelow, SomeBelow, picks, walk, tab, pad}
 use Rattle.laws.proofs.Says.{last, which, never}
 
 -- ---- loops: g i is the state before turn i
@@ -37,6 +37,21 @@ module _ (p : ℕ → Bool) where
   pub any-more : (i : ℕ) (b r : Bool) → r ≡ b || p i → b ≡ anyBelow p i → r ≡ anyBelow p (i + 1)
   unfolding anyBelow
   any-more i b r h e = next (anyBelow p) i r (h ∙ ap (λ (x : Bool). x || p i) e)
+
+module _ {A : Type 0} (f : A → ℕ → A) (a : A) where
+  pub walk-start : a ≡ walk f a 0
+  unfolding walk
+  walk-start = refl
+
+  pub walk-more : (i : ℕ) (s r : A) → r ≡ f s i → s ≡ walk f a i → r ≡ walk f a (i + 1)
+  unfolding walk
+  walk-more i s r h e = next (walk f a) i r (h ∙ ap (λ (s : A). f s i) e)
+
+  -- P holds after the walk where it held before, and every turn keeps it
+  pub walk-keeps : (P : ℕ → A → Type 0) (n : ℕ) → P 0 a → ((i : ℕ) (s : A) → i < n → P i s → P (suc i) (f s i)) → P n (walk f a n)
+  unfolding walk
+  walk-keeps P zero h turn = h
+  walk-keeps P (suc n) h turn = turn n (walk f a n) (omega arith) (walk-keeps P n h (λ i s l. turn i s (omega arith)))
 
 -- ---- a list by index
 pub tab-length : {A : Type 0} (f : ℕ → A) (n : ℕ) → length (tab f n) ≡ n

@@ -25,6 +25,11 @@ module _ (p : ℕ → Bool) where
   picks g zero = []
   picks g (suc n) = picks g n ++ pick (p n) (g n ∷ []) []
 
+-- s, changed by f at each index below n in turn
+unfoldable pub walk : {A : Type 0} → (A → ℕ → A) → A → ℕ → A
+walk f s zero = s
+walk f s (suc n) = f (walk f s n) n
+
 -- f at each index below n
 unfoldable pub tab : {A : Type 0} → (ℕ → A) → ℕ → List A
 tab f zero = []
