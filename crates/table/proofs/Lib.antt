@@ -1,2 +1,5 @@
+pub mod Joined
 pub mod Meaning
 pub mod Typed
+pub mod Walks
+pub mod Within

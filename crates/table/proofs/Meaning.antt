@@ -1,15 +1,14 @@
 -- The test of a well-formed table says that it is well formed.
 use mathlib.Core.Path.{_≡_, refl, sym, _∙_, ap, subst}
-use mathlib.Core.Bool.{Bool, true, false, _&&_, _||_, false≢true}
+use mathlib.Core.Bool.{Bool, true, false, _&&_, false≢true}
 use mathlib.Core.Logic.{_⊎_, inl, inr, ⊎-elim}
 use Prim.Native.Nat.{ℕ, _<_, _≤_}
 use native.Mathlib.Omega.{arith}
-use lib.Dec.{leb}
 use Rattle.laws.specs.Says.{pick, Says}
-use Rattle.laws.specs.Index.{allBelow}
+use Rattle.laws.specs.Index.{SomeBelow}
 use Rattle.laws.proofs.Typed.{each-at}
 use Rattle.laws.proofs.Tests.{both, either, or-true}
-use Rattle.laws.proofs.Says.{says-it, says-true, says-eq, says-le, says-and, says-if, says-unless, says-all, says-so, which, never}
+use Rattle.laws.proofs.Says.{says-true, says-eq, says-le, says-and, says-if, says-unless, says-all, says-so, which, never}
 use Rattle.filter.specs.declared.component.Filter.{Filter}
 use Rattle.filter.specs.Ranges.{FilterInRange}
 use Rattle.filter.specs.Coding.{held, wellCoded, emptyPlace}
@@ -19,9 +18,10 @@ use Rattle.filter.proofs.Theorems.{fittable-says}
 use Rattle.table.specs.declared.bearer.Role.{Role}
 use Rattle.table.specs.declared.bearer.Role.the-variants.{Idle, Default, Dedicated}
 use Rattle.table.specs.declared.bearer.Table.{Table}
-use Rattle.table.specs.Bearers.{firstIdentity, lastIdentity, bearerCount, placeCount, lastTransaction, inRange, indexOf, emptyFilter, noBearer, bearerAt, roleAt, transactionAt, filterAt, connectionAt, isIdle, isDefault, isDedicated, roleOf}
+use Rattle.table.specs.Bearers.{firstIdentity, lastIdentity, bearerCount, placeCount, lastTransaction, inRange, indexOf, identityOf, emptyFilter, noBearer, roleAt, transactionAt, filterAt, connectionOf, connectionAt, isIdle, isDefault, isDedicated, roleOf}
 use Rattle.table.specs.Ranges.{TableInRange}
-use Rattle.table.specs.WellFormed.{linkFine, filterFine, bearerFine, transactionsApart, transactionFrom, distinctTransactions, apartAt, apartFrom, rowsApart, bearersApart, bearerFrom, distinctPrecedences, wellFormed, Held, Well, WellFormed}
+use Rattle.table.specs.WellFormed.{linkFine, filterFine, bearerFine, transactionsApart, transactionFrom, distinctTransactions, distinctAt, distinctPrecedences, wellFormed, Held, WellFormed}
+use Rattle.table.proofs.Within.{Within, within-says}
 
 -- no two roles are one
 unlike : {A : Type 0} → _≡_ {A = ℕ} 0 1 → A
@@ -127,17 +127,26 @@ module _ (t : Table) (ok : TableInRange t) where
       says-all bearerCount (λ i l. says-all bearerCount (λ k m.
       says-unless (says-eq (transactionAt t i) 0) (says-if (says-eq (transactionAt t i) (transactionAt t k)) (says-eq i k))))
 
-  abbrev Apart : (i k j l : ℕ) → Type 0
-  Apart i k j l = Held (filterAt t i j) → Held (filterAt t k l) → filterAt t i j .precedence ≡ filterAt t k l .precedence → (i ≡ k) × (j ≡ l)
+  pub apart-says : Says (distinctPrecedences t) ((i : ℕ) → i < bearerCount → roleAt t i ≡ Default → Within t (identityOf i))
+  unfolding distinctPrecedences distinctAt
+  apart-says = says-all bearerCount (λ i l. says-if (default-says (roleAt t i)) (within-says t (identityOf i)))
 
-  pub apart-says : Says (distinctPrecedences t) ((i : ℕ) → i < bearerCount → (k : ℕ) → k < bearerCount → connectionAt t i ≡ connectionAt t k
-      → (j : ℕ) → j < placeCount → (l : ℕ) → l < placeCount → Apart i k j l)
-  unfolding distinctPrecedences bearerFrom bearersApart rowsApart apartFrom apartAt
-  apart-says =
-      says-all bearerCount (λ i a. says-all bearerCount (λ k b.
-      says-if (says-eq (connectionAt t i) (connectionAt t k)) (says-all placeCount (λ j m. says-all placeCount (λ l n.
-      says-if (says-it (held (filterAt t i j))) (says-if (says-it (held (filterAt t k l)))
-      (says-if (says-eq (filterAt t i j .precedence) (filterAt t k l .precedence)) (says-and (says-eq i k) (says-eq j l)))))))))
+  -- a bearer that holds a filter is of the connection of some default
+  abbrev Connected : ℕ → Type 0
+  Connected i = SomeBelow bearerCount (λ d. (roleAt t d ≡ Default) × (connectionAt t i ≡ identityOf d))
+
+  connected : (i j : ℕ) → i < bearerCount → j < placeCount → Alone i → Held (filterAt t i j) → Connected i
+  connected i j l m h g = go (roleAt t i) refl
+    where
+      go : (r : Role) → roleAt t i ≡ r → Connected i
+      go Idle e = never g (ap held (h .1 j m .0 e) ∙ unheld)
+      go Default e = record { at = i; below = l; holds = (e, ap (connectionOf i) e) }
+      go (Dedicated link) e =
+          let k = h .0 .1 link e in
+          let low = k .0 in
+          let high = k .1 in
+          let back : link ≡ identityOf (indexOf link) = omega arith in
+          record { at = indexOf link; below = omega arith; holds = (k .2, ap (connectionOf i) e ∙ back) }
 
   -- the test is true exactly for the well-formed tables of document 01
   pub well-says : Says (wellFormed t) (WellFormed t)
@@ -154,12 +163,14 @@ module _ (t : Table) (ok : TableInRange t) where
         zeroed = λ i j l m. h .0 .0 i l .1 j m .1 .zeroed;
         coded = λ i j l m. h .0 .0 i l .1 j m .1 .coded;
         fitted = λ i j l m. h .0 .0 i l .1 j m .1 .fitted;
-        distinct = λ i k j l a b c d e. h .1 i a k b e j c l d;
+        distinct = λ i k j l a b c d e g.
+            let n = connected i j a c (h .0 .0 i a) g in
+            h .1 (n .at) (n .below) (n .holds .0) i k j l a b c d (n .holds .1) (sym e ∙ n .holds .1) g;
       })
       (λ w. (
         (
           λ i l. (((w .silent i l, w .small i l), λ link. w .linked i link l), λ j m. (w .empty i j l m, record { zeroed = w .zeroed i j l m; coded = w .coded i j l m; fitted = w .fitted i j l m })),
           λ i l k m. w .single i k l m,
         ),
-        λ i a k b e j c l d. w .distinct i k j l a b c d e,
+        λ n u r i k j l a b c d o p. w .distinct i k j l a b c d (o ∙ sym p),
       ))

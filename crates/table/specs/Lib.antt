@@ -1,3 +1,4 @@
 pub mod Bearers
 pub mod Ranges
+pub mod Walk
 pub mod WellFormed

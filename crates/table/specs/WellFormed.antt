@@ -1,18 +1,20 @@
 -- "A table is well formed if all that holds, idle bearers hold nothing, unused fields are zero, precedences are distinct within a connection,
 -- and each filter is well coded .. and fits some packet."
 use mathlib.Core.Path.{_≡_}
-use Prim.Native.Nat.{ℕ, _≤_, _<_}
+use Prim.Native.Nat.{ℕ, zero, suc, _≤_, _<_}
 use mathlib.Core.Bool.{Bool, true, not, _&&_, _||_}
-use mathlib.Core.List.{List}
+use mathlib.Core.List.{List, [], _∷_, _++_}
 use lib.Dec.{eqb, leb}
+use Rattle.laws.specs.Says.{pick}
 use Rattle.laws.specs.Index.{imp, allBelow}
+use Rattle.laws.specs.Lists.{repeats}
 use Rattle.filter.specs.declared.component.Filter.{Filter}
 use Rattle.filter.specs.Coding.{held, wellCoded, emptyPlace}
 use Rattle.filter.specs.Fittable.{placeFine, SomePacketFits}
 use Rattle.table.specs.declared.bearer.Role.{Role}
 use Rattle.table.specs.declared.bearer.Role.the-variants.{Idle, Default, Dedicated}
 use Rattle.table.specs.declared.bearer.Table.{Table}
-use Rattle.table.specs.Bearers.{firstIdentity, lastIdentity, bearerCount, placeCount, lastTransaction, inRange, indexOf, emptyFilter, bearerAt, inRow, roleAt, transactionAt, filterAt, View, view, isIdle, isDefault, roleOf, connectionOf, connectionAt}
+use Rattle.table.specs.Bearers.{firstIdentity, lastIdentity, bearerCount, placeCount, lastTransaction, indexOf, identityOf, emptyFilter, bearerAt, inRow, roleAt, transactionAt, View, view, isIdle, isDefault, roleOf, connectionOf, connectionAt}
 
 -- ---- The test, one bearer at a time
 -- "dedicated and linked to an active default"
@@ -45,27 +47,32 @@ transactionFrom t i = allBelow (transactionsApart t i) bearerCount
 unfoldable pub distinctTransactions : Table → Bool
 distinctTransactions t = allBelow (transactionFrom t) bearerCount
 
--- "precedences are distinct within a connection": two held filters of one precedence stand in one place
-abbrev pub apart : Bool → Filter → Filter → Bool
-apart same f g = imp (held f) (imp (held g) (imp (eqb (f .precedence) (g .precedence)) same))
+-- ---- one connection at a time
+-- the pieces below n, one after the other
+unfoldable pub joined : (ℕ → List ℕ) → ℕ → List ℕ
+joined piece zero = []
+joined piece (suc n) = joined piece n ++ piece n
 
-unfoldable pub apartAt : Bool → List Filter → List Filter → ℕ → ℕ → Bool
-apartAt same row other j l = apart (same && eqb j l) (inRow row j) (inRow other l)
+-- the precedence of the filter that a place holds, if it does, and those of a row
+abbrev pub precedenceIn : List Filter → ℕ → List ℕ
+precedenceIn row j = pick (held (inRow row j)) (inRow row j .precedence ∷ []) []
 
-unfoldable pub apartFrom : Bool → List Filter → List Filter → ℕ → Bool
-apartFrom same row other j = allBelow (apartAt same row other j) placeCount
+unfoldable pub rowPrecedences : List Filter → List ℕ
+rowPrecedences row = joined (precedenceIn row) placeCount
 
-unfoldable pub rowsApart : Bool → List Filter → List Filter → Bool
-rowsApart same row other = allBelow (apartFrom same row other) placeCount
+-- those of a bearer, if it is of the connection, and those of all its bearers
+abbrev pub precedencesOf : Table → ℕ → ℕ → List ℕ
+precedencesOf t connection k = pick (eqb (connectionAt t k) connection) (rowPrecedences (bearerAt t k .row)) []
 
-unfoldable pub bearersApart : Table → ℕ → ℕ → Bool
-bearersApart t i k = imp (eqb (connectionAt t i) (connectionAt t k)) (rowsApart (eqb i k) (bearerAt t i .row) (bearerAt t k .row))
+unfoldable pub connectionPrecedences : Table → ℕ → List ℕ
+connectionPrecedences t connection = joined (precedencesOf t connection) bearerCount
 
-unfoldable pub bearerFrom : Table → ℕ → Bool
-bearerFrom t i = allBelow (bearersApart t i) bearerCount
+-- "precedences are distinct within a connection", a default's: none is there twice
+unfoldable pub distinctAt : Table → ℕ → Bool
+distinctAt t i = imp (isDefault (roleAt t i)) (not (repeats (connectionPrecedences t (identityOf i))))
 
 unfoldable pub distinctPrecedences : Table → Bool
-distinctPrecedences t = allBelow (bearerFrom t) bearerCount
+distinctPrecedences t = allBelow (distinctAt t) bearerCount
 
 unfoldable pub wellFormed : Table → Bool
 wellFormed t = allBelow (bearerFine t) bearerCount && distinctTransactions t && distinctPrecedences t

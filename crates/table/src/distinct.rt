@@ -1,69 +1,63 @@
-// Whether precedences are distinct within each connection.
+// Whether precedences are distinct within each connection: the precedences of a connection's filters are marked as they come.
 ghost use mathlib.Core.Path.{_≡_};
-ghost use Prim.Native.Nat.{_<_};
-ghost use Rattle.table.specs.WellFormed.{apart, apartFrom, rowsApart, bearersApart, bearerFrom, distinctPrecedences};
+ghost use mathlib.Core.Bool.{not};
+ghost use Rattle.laws.specs.Lists.{fold, repeats};
+ghost use Rattle.table.specs.WellFormed.{rowPrecedences, connectionPrecedences, distinctPrecedences};
+ghost use Rattle.table.specs.Walk.{noneMarked, marked};
 use crate::bearer::BEARERS;
+use crate::bearer::FIRST_IDENTITY;
 use crate::bearer::PLACES;
 use crate::bearer::Table;
 use crate::bearer::connection_of;
+use crate::bearer::is_default;
 use filter::Filter;
 use filter::coding::held;
 
-fn are_apart(same: bool, f: Filter, g: Filter) -> bool
-    ensures { λ r. ⌜ r ≡ apart same f g ⌝ }
-{
-    !held(f) | (!held(g) | (!(f.precedence == g.precedence) | same))
+const PRECEDENCES: usize = 256;
+
+// The precedences seen so far, and whether one of them was seen twice.
+pub struct Marks {
+    pub seen: [bool; PRECEDENCES],
+    pub again: bool,
 }
 
-fn apart_from(same: bool, row: [Filter; PLACES], other: [Filter; PLACES], j: usize) -> bool
-    requires { ⌜ j < 16 ⌝ }
-    ensures { λ r. ⌜ r ≡ apartFrom same row other j ⌝ }
+fn none_marked() -> Marks
+    ensures { λ r. ⌜ r ≡ noneMarked ⌝ }
 {
-    let mut all = true;
-    for l in 0..PLACES {
-        let f = row[j];
-        let g = other[l];
-        all = all & are_apart(same & (j == l), f, g);
+    Marks {
+        seen: [false; PRECEDENCES],
+        again: false,
     }
-    all
 }
 
-fn rows_apart(same: bool, row: [Filter; PLACES], other: [Filter; PLACES]) -> bool
-    ensures { λ r. ⌜ r ≡ rowsApart same row other ⌝ }
+fn mark_row(marks: Marks, row: [Filter; PLACES]) -> Marks
+    ensures { λ r. ⌜ r ≡ fold marked marks (rowPrecedences row) ⌝ }
 {
-    let mut all = true;
+    let mut st = marks;
     for j in 0..PLACES {
-        all = all & apart_from(same, row, other, j);
+        let f = row[j];
+        if held(f) {
+            let precedence = f.precedence as usize;
+            st.again = st.again | st.seen[precedence];
+            st.seen[precedence] = true;
+        }
     }
-    all
+    st
 }
 
-fn bearers_apart(t: Table, i: usize, k: usize) -> bool
-    requires { ⌜ (i < 11) × (k < 11) ⌝ }
-    ensures { λ r. ⌜ r ≡ bearersApart t i k ⌝ }
+fn distinct_within(t: Table, connection: u8) -> bool
+    ensures { λ r. ⌜ r ≡ not (repeats (connectionPrecedences t connection)) ⌝ }
 {
-    let b = t.bearers[i];
-    let c = t.bearers[k];
-    let role = b.role;
-    let role2 = c.role;
-    let row = b.row;
-    let row2 = c.row;
-    if connection_of(i, role) == connection_of(k, role2) {
-        rows_apart(i == k, row, row2)
-    } else {
-        true
-    }
-}
-
-fn bearer_from(t: Table, i: usize) -> bool
-    requires { ⌜ i < 11 ⌝ }
-    ensures { λ r. ⌜ r ≡ bearerFrom t i ⌝ }
-{
-    let mut all = true;
+    let mut marks = none_marked();
     for k in 0..BEARERS {
-        all = all & bearers_apart(t, i, k);
+        let b = t.bearers[k];
+        let role = b.role;
+        if connection_of(k, role) == connection {
+            let row = b.row;
+            marks = mark_row(marks, row);
+        }
     }
-    all
+    !marks.again
 }
 
 pub fn distinct_precedences(t: Table) -> bool
@@ -71,7 +65,11 @@ pub fn distinct_precedences(t: Table) -> bool
 {
     let mut all = true;
     for i in 0..BEARERS {
-        all = all & bearer_from(t, i);
+        let b = t.bearers[i];
+        let role = b.role;
+        if is_default(role) {
+            all = all & distinct_within(t, i as u8 + FIRST_IDENTITY);
+        }
     }
     all
 }

@@ -1,29 +1,55 @@
 // Whether a table is well formed.
 ghost use mathlib.Core.Path.{_≡_};
+ghost use mathlib.Core.Bool.{_&&_};
 ghost use Prim.Native.Nat.{_<_};
-ghost use Rattle.laws.specs.Index.{allBelow};
-ghost use Rattle.table.specs.WellFormed.{linkFine, transactionFine, filterFine, bearerFine, transactionsApart, transactionFrom, distinctTransactions, wellFormed};
+ghost use Rattle.laws.specs.Index.{imp, allBelow, tab};
+ghost use Rattle.filter.specs.Coding.{emptyPlace};
+ghost use Rattle.filter.specs.Fittable.{placeFine};
+ghost use Rattle.table.specs.Bearers.{transactionAt};
+ghost use Rattle.table.specs.WellFormed.{transactionFine, filterFine, wellFormed};
+ghost use Rattle.table.specs.Walk.{defaultAt, linkIn, bearerIn, fineAt, apartFrom};
 use crate::bearer::BEARERS;
+use crate::bearer::Bearer;
 use crate::bearer::PLACES;
 use crate::bearer::Role;
 use crate::bearer::Table;
+use crate::bearer::in_range;
+use crate::bearer::index_of;
 use crate::bearer::is_default;
 use crate::bearer::is_idle;
-use crate::bearer::role_of;
 use crate::distinct::distinct_precedences;
 use filter::Filter;
 use filter::coding::empty_place;
+use filter::coding::held;
 use filter::sample::place_fine;
 
 const LAST_TRANSACTION: u8 = 254;
 
-fn link_fine(t: Table, role: Role) -> bool
-    ensures { λ r. ⌜ r ≡ linkFine t role ⌝ }
+fn defaults(t: Table) -> [bool; BEARERS]
+    ensures { λ r. ⌜ r ≡ tab (defaultAt t) 11 ⌝ }
+{
+    let mut all = [false; BEARERS];
+    for i in 0..BEARERS {
+        let b = t.bearers[i];
+        let role = b.role;
+        all[i] = is_default(role);
+    }
+    all
+}
+
+fn link_fine(defaults: [bool; BEARERS], role: Role) -> bool
+    ensures { λ r. ⌜ r ≡ linkIn defaults role ⌝ }
 {
     match role {
         Role::Idle => true,
         Role::Default => true,
-        Role::Dedicated(link) => is_default(role_of(t, link)),
+        Role::Dedicated(link) => {
+            if in_range(link) {
+                defaults[index_of(link)]
+            } else {
+                false
+            }
+        }
     }
 }
 
@@ -33,12 +59,15 @@ fn transaction_fine(idle: bool, x: u8) -> bool
     (!idle | (x == 0)) & (x <= LAST_TRANSACTION)
 }
 
-fn filter_fine(idle: bool, row: [Filter; PLACES], j: usize) -> bool
-    requires { ⌜ j < 16 ⌝ }
-    ensures { λ r. ⌜ r ≡ filterFine idle row j ⌝ }
+// Most places are empty: the dear test is for the others.
+fn filter_fine(idle: bool, f: Filter) -> bool
+    ensures { λ r. ⌜ r ≡ imp idle (emptyPlace f) && placeFine f ⌝ }
 {
-    let f = row[j];
-    (!idle | empty_place(f)) & place_fine(f)
+    if held(f) {
+        !idle & place_fine(f)
+    } else {
+        empty_place(f)
+    }
 }
 
 fn row_fine(idle: bool, row: [Filter; PLACES]) -> bool
@@ -46,58 +75,60 @@ fn row_fine(idle: bool, row: [Filter; PLACES]) -> bool
 {
     let mut all = true;
     for j in 0..PLACES {
-        all = all & filter_fine(idle, row, j);
+        let f = row[j];
+        all = all & filter_fine(idle, f);
     }
     all
 }
 
-fn bearer_fine(t: Table, i: usize) -> bool
-    requires { ⌜ i < 11 ⌝ }
-    ensures { λ r. ⌜ r ≡ bearerFine t i ⌝ }
+fn bearer_fine(defaults: [bool; BEARERS], b: Bearer) -> bool
+    ensures { λ r. ⌜ r ≡ bearerIn defaults b ⌝ }
 {
-    let b = t.bearers[i];
     let role = b.role;
     let row = b.row;
     let idle = is_idle(role);
-    transaction_fine(idle, b.transaction) & link_fine(t, role) & row_fine(idle, row)
+    transaction_fine(idle, b.transaction) & link_fine(defaults, role) & row_fine(idle, row)
 }
 
-fn bearers_fine(t: Table) -> bool
-    ensures { λ r. ⌜ r ≡ allBelow (bearerFine t) 11 ⌝ }
+fn bearers_fine(t: Table, links: [bool; BEARERS]) -> bool
+    ensures { λ r. ⌜ r ≡ allBelow (fineAt links t) 11 ⌝ }
 {
     let mut all = true;
     for i in 0..BEARERS {
-        all = all & bearer_fine(t, i);
+        let b = t.bearers[i];
+        all = all & bearer_fine(links, b);
     }
     all
 }
 
-fn transactions_apart(t: Table, i: usize, k: usize) -> bool
-    requires { ⌜ (i < 11) × (k < 11) ⌝ }
-    ensures { λ r. ⌜ r ≡ transactionsApart t i k ⌝ }
+fn transactions(t: Table) -> [u8; BEARERS]
+    ensures { λ r. ⌜ r ≡ tab (transactionAt t) 11 ⌝ }
 {
-    let b = t.bearers[i];
-    let c = t.bearers[k];
-    (b.transaction == 0) | (!(b.transaction == c.transaction) | (i == k))
+    let mut all = [0; BEARERS];
+    for i in 0..BEARERS {
+        let b = t.bearers[i];
+        all[i] = b.transaction;
+    }
+    all
 }
 
-fn transaction_from(t: Table, i: usize) -> bool
+fn transaction_from(xs: [u8; BEARERS], i: usize) -> bool
     requires { ⌜ i < 11 ⌝ }
-    ensures { λ r. ⌜ r ≡ transactionFrom t i ⌝ }
+    ensures { λ r. ⌜ r ≡ apartFrom xs i ⌝ }
 {
     let mut all = true;
     for k in 0..BEARERS {
-        all = all & transactions_apart(t, i, k);
+        all = all & ((xs[i] == 0) | (!(xs[i] == xs[k]) | (i == k)));
     }
     all
 }
 
-fn distinct_transactions(t: Table) -> bool
-    ensures { λ r. ⌜ r ≡ distinctTransactions t ⌝ }
+fn distinct_transactions(xs: [u8; BEARERS]) -> bool
+    ensures { λ r. ⌜ r ≡ allBelow (apartFrom xs) 11 ⌝ }
 {
     let mut all = true;
     for i in 0..BEARERS {
-        all = all & transaction_from(t, i);
+        all = all & transaction_from(xs, i);
     }
     all
 }
@@ -105,5 +136,5 @@ fn distinct_transactions(t: Table) -> bool
 pub fn well_formed(t: Table) -> bool
     ensures { λ r. ⌜ r ≡ wellFormed t ⌝ }
 {
-    bearers_fine(t) & distinct_transactions(t) & distinct_precedences(t)
+    bearers_fine(t, defaults(t)) & distinct_transactions(transactions(t)) & distinct_precedences(t)
 }

@@ -1,4 +1,4 @@
--- `table::well_formed::row_fine` meets its contract: the tests so far are those of the indices passed.
+-- `table::well_formed::row_fine` meets its contract: the tests so far are those of the places passed.
 -- Assumes nothing.
 use mathlib.Core.Path.{_≡_}
 use Prim.Native.Nat.{_≤_, _-_}
@@ -19,19 +19,26 @@ abbrev μ-loop : tie.MeasureT-loop
 loop-holds : tie.Need-loop-holds Inv-loop μ-loop
 loop-holds c =
     let a = c .args in
-    (omega arith, all-start (filterFine (a .idle) (a .row)))
+    (omega arith, all-start (filterFine (a .idle) (a .t2)))
 
 loop-again : tie.Need-loop-again Inv-loop μ-loop
+unfolding filterFine
 loop-again c =
-    let a = c .before .before .before .args in
-    let l = c .before .before .loop in
-    (omega arith, all-more (filterFine (a .idle) (a .row)) (l .j) (l .all) _ (cc) (l .inv .1))
+    let a = c .before .before .before .before .args in
+    let l = c .before .before .before .loop in
+    (omega arith, all-more (filterFine (a .idle) (a .t2)) (l .j) (l .all) _ (cc) (l .inv .1))
 
 returns : tie.Need-returns Inv-loop μ-loop
 returns c =
     let a = c .before .before .args in
     let l = c .before .loop in
-    done (allBelow (filterFine (a .idle) (a .row))) (l .j) 16 _ (omega arith) (omega arith) (l .inv .1)
+    done (allBelow (filterFine (a .idle) (a .t2))) (l .j) 16 _ (omega arith) (omega arith) (l .inv .1)
 
 pub row-fine-spec : {M : Type 1} → statement M
-row-fine-spec = tie.close (tie.spec Inv-loop μ-loop loop-holds (λ c κs. search needs) (λ c. search needs) (λ c. search needs) loop-again returns)
+row-fine-spec =
+    tie.close
+    (tie.spec
+    Inv-loop μ-loop loop-holds
+    (λ c. search needs) (λ c. search needs) (λ c κs. search needs) (λ c. search needs) (λ c. search needs)
+    loop-again
+    returns)

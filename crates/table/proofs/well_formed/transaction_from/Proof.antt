@@ -5,34 +5,41 @@ use Prim.Native.Nat.{_≤_, _-_}
 use native.Mathlib.Omega.{arith}
 use Rattle.laws.specs.Index.{allBelow}
 use Rattle.laws.proofs.Index.{all-start, all-more, done}
-use Rattle.table.specs.WellFormed.{transactionsApart, transactionFrom}
+use Rattle.table.specs.Walk.{apartIn, apartFrom}
 use borrow.Author.Needs.{needs}
 use Rattle.table.proofs.well_formed.transaction_from.Statement.{statement}
 use Rattle.table.proofs.well_formed.transaction_from.Tie as tie
 
 abbrev Inv-loop : tie.InvT-loop
-Inv-loop t i all₀ k₀ all k = (k ≤ 11) × (all ≡ allBelow (transactionsApart t i) k)
+Inv-loop i xs all₀ k₀ all k = (k ≤ 11) × (all ≡ allBelow (apartIn xs i) k)
 
 abbrev μ-loop : tie.MeasureT-loop
-μ-loop t i all₀ k₀ all k = 11 - k
+μ-loop i xs all₀ k₀ all k = 11 - k
 
 loop-holds : tie.Need-loop-holds Inv-loop μ-loop
 loop-holds c =
     let a = c .args in
-    (omega arith, all-start (transactionsApart (a .t) (a .i)))
+    (omega arith, all-start (apartIn (a .t1) (a .i)))
 
 loop-again : tie.Need-loop-again Inv-loop μ-loop
+unfolding apartIn
 loop-again c =
-    let a = c .before .before .before .args in
-    let l = c .before .before .loop in
-    (omega arith, all-more (transactionsApart (a .t) (a .i)) (l .k) (l .all) _ (cc) (l .inv .1))
+    let a = c .before .before .args in
+    let l = c .before .loop in
+    (omega arith, all-more (apartIn (a .t1) (a .i)) (l .k) (l .all) _ (cc) (l .inv .1))
 
 returns : tie.Need-returns Inv-loop μ-loop
-unfolding transactionFrom
+unfolding apartFrom
 returns c =
     let a = c .before .before .args in
     let l = c .before .loop in
-    done (allBelow (transactionsApart (a .t) (a .i))) (l .k) 11 _ (omega arith) (omega arith) (l .inv .1)
+    done (allBelow (apartIn (a .t1) (a .i))) (l .k) 11 _ (omega arith) (omega arith) (l .inv .1)
 
 pub transaction-from-spec : {M : Type 1} → statement M
-transaction-from-spec = tie.close (tie.spec Inv-loop μ-loop loop-holds (λ c κs. search needs) (λ c. search needs) (λ c. search needs) loop-again returns)
+transaction-from-spec =
+    tie.close
+    (tie.spec
+    Inv-loop μ-loop loop-holds
+    (λ c. search needs) (λ c. search needs) (λ c. search needs) (λ c. search needs) (λ c. search needs)
+    loop-again
+    returns)
