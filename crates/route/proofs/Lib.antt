@@ -1,0 +1,4 @@
+pub mod Typed
+pub mod Firsts
+pub mod Listing
+pub mod Theorems

@@ -1,0 +1,12 @@
+-- What the declared types tell: an ordered list has 256 entries.
+use mathlib.Core.Path.{_≡_}
+use lib.ListN.{length}
+use Rattle.laws.specs.Lists.{Each}
+use Rattle.laws.proofs.Typed.{Tells, array-tells}
+use Rattle.route.specs.declared.list.Entry.{Entry}
+use Rattle.route.specs.Lists.{positionCount}
+use Rattle.route.proofs.list.Entry as entry
+use Rattle.route.proofs.list.OrderedList as list
+
+pub list-long : Tells list.the-field (λ l. length (l .entries) ≡ positionCount)
+list-long l vs is = array-tells entry.the-field (λ (e : Entry). Unit {0}) (λ e us h. tt) positionCount (l .entries) _ (is .1 .1 .0) .count
