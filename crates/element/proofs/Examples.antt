@@ -1,18 +1,22 @@
--- Document 01's sample elements that concern the reader, and some limits: a single list under a single claim, computed.
+-- Document 01's sample elements that concern the reader, and some limits: a single list under a single claim, computed. Then what is handed out step by step.
 use mathlib.Core.Path.{_≡_, refl}
 use mathlib.Core.Bool.{true, false, not, _&&_, _||_}
 use mathlib.Core.List.{List, [], _∷_, _++_, map}
-use Prim.Native.Nat.{ℕ}
+use Prim.Native.Nat.{ℕ, zero, suc}
 use lib.Dec.{eqb}
 use lib.ListN.{length, replicate}
 use Rattle.laws.specs.Numbers.{sameUnder}
 use Rattle.laws.specs.Octets.{beFrom, beBytes}
 use Rattle.laws.specs.Lists.{every, isIn, repeats}
-use Rattle.filter.specs.Build.{excluded, added, built}
+use Rattle.filter.specs.Build.{protocol, bare, excluded, added, built}
 use Rattle.filter.specs.Coding.{held, wellCoded, emptyPlace}
 use Rattle.filter.specs.Fit.{validHeader, agreesTransport, agreesNetwork, fits}
 use Rattle.filter.specs.Fittable.{sample, fittable}
+use Rattle.element.specs.declared.answer.Cause.the-variants.{Operation}
+use Rattle.element.specs.declared.entries.Handed.{Handed}
+use Rattle.element.specs.declared.entries.Handed.the-variants.{Filter, Identifier, Refused, End}
 use Rattle.element.specs.Numbers.{numberOf}
+use Rattle.element.specs.Entries.{startOf, passed, listEnd, entryAt, afterAt}
 use Rattle.element.specs.Read.{noFilters, noMarks, codedOf, entriesOf, twice, laid, marked, readValue, readElement}
 use Rattle.element.specs.Contents.{lengthOf, componentOf, contentsFrom, contentsOf}
 use Rattle.element.specs.Framing.{splitOf, parameters, restFits, framedBy, framedOf}
@@ -70,3 +74,23 @@ examples : (
     ++ (0x61 ∷ 0x1F ∷ 0x00 ∷ 0x04 ∷ 0x80 ∷ 0x01 ∷ 0x02 ∷ 0x03 ∷ [])
 unfolding sameUnder beFrom beBytes every isIn repeats excluded added built held wellCoded emptyPlace validHeader agreesTransport agreesNetwork fits sample fittable noFilters noMarks lengthOf componentOf contentsFrom contentsOf splitOf parameters restFits framedBy framedOf codedOf entriesOf twice laid marked readValue readElement contentsOctets entryOctets entriesFrom entriesOctets marksFrom octetsOf rowGiven marksGiven given
 examples = refl
+
+-- the first n steps
+stepsFrom : ℕ → List ℕ → ℕ → List Handed
+stepsFrom zero xs at = []
+stepsFrom (suc n) xs at = entryAt xs at ∷ stepsFrom n xs (afterAt xs at)
+
+abbrev steps : ℕ → List ℕ → List Handed
+steps n xs = stepsFrom n xs (startOf xs)
+
+-- identifiers, one of them twice, and after them a parameter; no list; a cause, again and again; filters in byte order
+handed-out : steps 5 (0xB3 ∷ 0xF5 ∷ 0x01 ∷ 0x05 ∷ 0x07 ∷ 0x00 ∷ [])
+    ++ steps 1 (0xC0 ∷ [])
+    ++ steps 2 (0xA2 ∷ 0x01 ∷ [])
+    ++ steps 3 (0x22 ∷ 0x35 ∷ 0x0A ∷ 0x02 ∷ 0x30 ∷ 0x11 ∷ 0x11 ∷ 0x0B ∷ 0x02 ∷ 0x30 ∷ 0x06 ∷ [])
+    ≡ (Identifier 5 ∷ Identifier 1 ∷ Identifier 5 ∷ End ∷ End ∷ [])
+    ++ (End ∷ [])
+    ++ (Refused (record { cause = Operation }) ∷ Refused (record { cause = Operation }) ∷ [])
+    ++ (Filter 5 (added (bare 10 3) (protocol 17)) ∷ Filter 1 (added (bare 11 1) (protocol 6)) ∷ End ∷ [])
+unfolding stepsFrom startOf passed listEnd entryAt afterAt sameUnder beFrom every isIn repeats excluded added validHeader agreesTransport agreesNetwork fits sample fittable noFilters noMarks lengthOf componentOf contentsFrom contentsOf splitOf parameters restFits framedBy framedOf codedOf entriesOf twice laid marked readValue readElement
+handed-out = refl

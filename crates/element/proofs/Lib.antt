@@ -4,6 +4,9 @@ pub mod Typed
 mod Reading
 mod Ending
 mod Splitting
+mod Offsets
+pub mod Stepping
+mod Held
 mod Judging
 mod Writing
 mod Rows

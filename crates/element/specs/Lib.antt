@@ -5,3 +5,4 @@ pub mod Write
 pub mod Numbers
 pub mod Walk
 pub mod Meaning
+pub mod Entries

@@ -1,9 +1,11 @@
--- "Numbers given": document 01's number of a cause, of what the reader gives ("0, or the reader's cause"), and of what the writer gives.
+-- "Numbers given": document 01's number of a cause, of what the reader gives ("0, or the reader's cause") and hands out, and of what the writer gives.
 use Prim.Native.Nat.{ℕ}
 use Rattle.element.specs.declared.answer.Cause.{Cause}
 use Rattle.element.specs.declared.answer.Cause.the-variants.{Operation, Semantics, Coding}
 use Rattle.element.specs.declared.answer.Answer.{Answer}
 use Rattle.element.specs.declared.answer.Answer.the-variants.{Filters, Identifiers, Bare, Refused}
+use Rattle.element.specs.declared.entries.Handed.{Handed}
+use Rattle.element.specs.declared.entries.Handed.the-variants.{Filter, Identifier, Refused as refusedAtOnce, End}
 use Rattle.element.specs.declared.write.Unwritten.the-variants.{NotGiven, TooLong, NoRoom}
 use Rattle.element.specs.declared.write.Written.{Written}
 use Rattle.element.specs.declared.write.Written.the-variants.{Wrote, Refused as refusedTo}
@@ -18,6 +20,12 @@ numberOf (Filters operation) = 0
 numberOf Identifiers = 0
 numberOf (Bare operation) = 0
 numberOf (Refused refusal) = causeNumber (refusal .cause)
+
+abbrev pub handedNumber : Handed → ℕ
+handedNumber (Filter identifier f) = 0
+handedNumber (Identifier identifier) = 0
+handedNumber (refusedAtOnce refusal) = causeNumber (refusal .cause)
+handedNumber End = 0
 
 abbrev pub writtenNumber : Written → ℕ
 writtenNumber (Wrote n) = 0

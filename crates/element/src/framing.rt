@@ -12,7 +12,7 @@ pub enum Place {
 }
 
 // The end of the part at `at`: `skip` octets, its length, as many octets.
-fn part_end(s: &[u8], at: usize, skip: usize) -> Place
+pub(crate) fn part_end(s: &[u8], at: usize, skip: usize) -> Place
     ensures { λ r. ⌜ r ≡ partEnd (now (s .entry)) at skip ⌝ }
 {
     if s.len() <= skip {

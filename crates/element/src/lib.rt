@@ -1,6 +1,7 @@
-// The template's bytes: the reader, the writer, the component lengths, and the number of an answer.
+// The template's bytes: the reader, also entry by entry, the writer, the component lengths, and the number of an answer.
 pub mod answer;
 mod contents;
+pub mod entries;
 mod fields;
 mod framing;
 mod judge;
@@ -16,5 +17,7 @@ pub use answer::Cause;
 pub use answer::Element;
 pub use answer::Refusal;
 pub use answer::SetOperation;
+pub use entries::Entries;
+pub use entries::Handed;
 pub use write::Unwritten;
 pub use write::Written;
