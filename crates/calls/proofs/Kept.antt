@@ -21,6 +21,7 @@ use Rattle.table.specs.Bearers.{firstIdentity, lastIdentity, bearerCount, place
 use Rattle.table.specs.WellFormed.{Held, Well, WellFormed}
 use Rattle.table.proofs.Meaning.{Fine, idle-says, range-says}
 use Rattle.calls.specs.Steps.{opensAt, closedView, closed, startedView, openedView, cutView, ofConnection, isAt, droppedBy, dropped, deletedIn, deletedView}
+use Rattle.calls.specs.Changes.{Taken, Void}
 use Rattle.calls.specs.Lay.{old, takenBy, takes, conflict, placed, placedIn, laidView, released, laidBy, laidOn, laid}
 use Rattle.calls.proofs.Views.{role-built, transaction-built, filter-built}
 
@@ -45,11 +46,6 @@ fine-at v w i j l m = record { zeroed = w .zeroed i j l m; coded = w .coded i j 
 picked : {A : Type 0} (b : Bool) (x y : A) → (pick b x y ≡ y) ⊎ (pick b x y ≡ x)
 picked true x y = inr refl
 picked false x y = inl refl
-
-pub record Void (u : View) (i : ℕ) : Type 0 where
-  pub role : u .role i ≡ Idle
-  pub transaction : u .transaction i ≡ 0
-  pub filter : (j : ℕ) → j < placeCount → u .filter i j ≡ emptyFilter
 
 -- the bearer stays or is gone with all it holds; so do its transaction and each of its filters
 pub record Less (v u : View) (i : ℕ) : Type 0 where
@@ -270,10 +266,6 @@ pub record WellSet (new : List Filter) : Type 0 where
   pub zeroed : (j : ℕ) → j < placeCount → (Held (inRow new j) → ⊥) → inRow new j ≡ emptyFilter
   pub coded : (j : ℕ) → j < placeCount → Held (inRow new j) → wellCoded (inRow new j) ≡ true
   pub fitted : (j : ℕ) → j < placeCount → Held (inRow new j) → SomePacketFits (inRow new j)
-
--- a new filter has precedence p
-abbrev pub Taken : List Filter → ℕ → Type 0
-Taken new p = SomeBelow placeCount (λ l. Held (inRow new l) × (inRow new l .precedence ≡ p))
 
 pub takes-says : (new : List Filter) (p : ℕ) → Says (takes new p) (Taken new p)
 unfolding takes takenBy

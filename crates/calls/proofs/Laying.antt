@@ -39,21 +39,10 @@ use Rattle.calls.specs.Steps.{opensAt, closedView, closed, cutView, ofCo
 use Rattle.calls.specs.Lay.{old, conflict, placed, conflictIn, loses, placedIn, losesAt, frees, follows, laidView, released, followers, otherAt, onlyConnection, laidBy, laidOn, laid}
 use Rattle.calls.specs.Modify.{malformed, mismatch, operationOf, headFine, creates, deleteFilters, deletedTft, modifiedBy, modifyRead, modifyNamed, modifyOf}
 use Rattle.calls.proofs.Views.{bearer-built, role-built, transaction-built, filter-built}
-use Rattle.calls.proofs.Kept.{Void, Taken, no-held, closed-well, of-says, conflict-says, active-at}
+use Rattle.calls.specs.Changes.{Listed, Lists, IsDedicated, Only, IsRelease, Taken, home, TakenAt, Trimmed, Conflict, Loses, Closing, Stays, Shortened, Void, Gone, Unnamed, stays, shortened, gone, Brings, Notes}
+use Rattle.calls.proofs.Kept.{no-held, closed-well, of-says, conflict-says, active-at}
 
 -- ---- a follow-up list
--- the bearer at i is in the list
-abbrev pub Listed : FollowUps → ℕ → Type 0
-Listed f i = SomeBelow (f .count) (λ m. getD (f .bearers) m 0 ≡ identityOf i)
-
--- the list is exactly the bearers with P, in rising identity, zero beyond the count
-pub record Lists (P : ℕ → Type 0) (f : FollowUps) : Type 0 where
-  pub few : f .count ≤ bearerCount
-  pub each : (m : ℕ) → m < f .count → SomeBelow bearerCount (λ i. P i × (getD (f .bearers) m 0 ≡ identityOf i))
-  pub all : (i : ℕ) → i < bearerCount → P i → Listed f i
-  pub rising : (m n : ℕ) → m < n → n < f .count → getD (f .bearers) m 0 < getD (f .bearers) n 0
-  pub rest : (m : ℕ) → f .count ≤ m → getD (f .bearers) m 0 ≡ 0
-
 module _ (p : ℕ → Bool) (P : ℕ → Type 0) (says : (i : ℕ) → i < bearerCount → Says (p i) (P i)) where
   lists : Lists P (followOf (picks p identityOf bearerCount))
   lists =
@@ -104,18 +93,7 @@ module _ (t : Table) (v : View) (i : ℕ) (l : i < bearerCount) (long : length (
   bearer-as role transaction =
       bearer-is (bearerAt t i) (roleAt (build v) i) (transactionAt (build v) i) (bearerAt (build v) i .row) (role-built v i l ∙ role) (transaction-built v i l ∙ transaction) row-as
 
--- a dedicated bearer
-abbrev pub IsDedicated : Table → ℕ → Type 0
-IsDedicated t i = (link : ℕ) × (roleAt t i ≡ Dedicated link)
-
 -- ---- the answer where a connection is released
--- it is the only one: no default is of another
-abbrev pub Only : Table → ℕ → Type 0
-Only t connection = (i : ℕ) → i < bearerCount → roleAt t i ≡ Default → identityOf i ≡ connection
-
-abbrev pub IsRelease : Table → ℕ → Answer → Type 0
-IsRelease t connection a = (Only t connection × (a ≡ Reattach)) ⊎ ((Only t connection → ⊥) × (a ≡ Release connection))
-
 pub only-says : (t : Table) (connection : ℕ) → Says (onlyConnection t connection) (Only t connection)
 unfolding onlyConnection otherAt
 only-says t connection =
@@ -129,28 +107,15 @@ release-picked t connection =
     ⊎-elim (λ e. inl (only-says t connection .to e, rw e)) (λ e. inr (says-ne (only-says t connection) e, rw e)) (which (onlyConnection t connection))
 
 -- ---- new filters on the bearer that is named
--- its connection
-abbrev pub home : Table → ℕ → ℕ
-home t bearer = connectionAt t (indexOf bearer)
-
 module _ (t : Table) (bearer : ℕ) (new : List Filter) where
-  -- the old filter at (i, j) is of the connection, and a new one has its precedence
-  abbrev pub TakenAt : ℕ → ℕ → Type 0
-  TakenAt i j = ((connectionAt t i ≡ home t bearer) × Held (filterAt t i j)) × Taken new (filterAt t i j .precedence)
-
-  -- of the bearer's filters exactly those are gone
-  pub record Trimmed (s : Table) (i : ℕ) : Type 0 where
-    pub lost : (j : ℕ) → j < placeCount → TakenAt i j → filterAt s i j ≡ emptyFilter
-    pub stays : (j : ℕ) → j < placeCount → (TakenAt i j → ⊥) → filterAt s i j ≡ filterAt t i j
-
   -- a bearer that is not named, where the connection stays
   pub record Frame (o : Outcome) (i : ℕ) : Type 0 where
     pub role : roleAt (o .table) i ≡ roleAt t i
     pub transaction : transactionAt (o .table) i ≡ transactionAt t i
-    pub filters : Trimmed (o .table) i
-    pub listed : SomeBelow placeCount (TakenAt i) → IsDedicated t i × Listed (o .reply .follow) i
+    pub filters : Trimmed t bearer new (o .table) i
+    pub listed : SomeBelow placeCount (TakenAt t bearer new i) → IsDedicated t i × Listed (o .reply .follow) i
 
-  taken-says : (i j : ℕ) → Says (conflict new (ofConnection t (home t bearer) i) (filterAt t i j)) (TakenAt i j)
+  taken-says : (i j : ℕ) → Says (conflict new (ofConnection t (home t bearer) i) (filterAt t i j)) (TakenAt t bearer new i j)
   taken-says i j = conflict-says new (of-says t (home t bearer) i) (filterAt t i j)
 
   module _ (create : Bool) where
@@ -167,45 +132,39 @@ module _ (t : Table) (bearer : ℕ) (new : List Filter) where
     unfolding laid laidOn
     laid-by b h = ap (λ (b : Bool). laidBy b t bearer (home t bearer) new create) h
 
-    -- THE FOLLOW-UPS. An old filter at (i, j) that no new one replaces, and whose precedence a new one takes
-    abbrev pub Conflict : ℕ → ℕ → Type 0
-    Conflict i j = ((i ≡ indexOf bearer) × ((create ≡ true) ⊎ Held (inRow new j)) → ⊥) × TakenAt i j
-
-    abbrev pub Loses : ℕ → Type 0
-    Loses i = IsDedicated t i × SomeBelow placeCount (Conflict i)
-
-    pub conflict-at : (i j : ℕ) → Says (conflictIn new create (eqb i (indexOf bearer)) (ofConnection t (home t bearer) i) (bearerAt t i .row) j) (Conflict i j)
+    -- THE FOLLOW-UPS
+    pub conflict-at : (i j : ℕ) → Says (conflictIn new create (eqb i (indexOf bearer)) (ofConnection t (home t bearer) i) (bearerAt t i .row) j) (Conflict t bearer new create i j)
     unfolding conflictIn old
     conflict-at i j =
         go (eqb i (indexOf bearer) && (create || held (inRow new j))) (says-and (says-eq i (indexOf bearer)) (says-or (says-it create) (says-it (held (inRow new j)))))
       where
         go : {B : Type 0} (b : Bool) → Says b B
-            → Says (conflict new (ofConnection t (home t bearer) i) (pick b emptyFilter (filterAt t i j))) ((B → ⊥) × TakenAt i j)
+            → Says (conflict new (ofConnection t (home t bearer) i) (pick b emptyFilter (filterAt t i j))) ((B → ⊥) × TakenAt t bearer new i j)
         go true s = record {
           to = λ h. no-held emptyFilter refl (conflict-says new (of-says t (home t bearer) i) emptyFilter .to h .0 .1);
           from = λ q. absurd (q .0 (s .to refl));
         }
         go false s = says-so (taken-says i j) (λ q. (says-ne s refl, q)) (λ q. q .1)
 
-    loses-at : (i : ℕ) → Says (losesAt new create t (indexOf bearer) (home t bearer) i) (SomeBelow placeCount (Conflict i))
+    loses-at : (i : ℕ) → Says (losesAt new create t (indexOf bearer) (home t bearer) i) (SomeBelow placeCount (Conflict t bearer new create i))
     unfolding losesAt loses
     loses-at i = says-any placeCount (λ j m. conflict-at i j)
 
-    pub loses-says : (i : ℕ) → Says (follows new create t (indexOf bearer) (home t bearer) i) (Loses i)
+    pub loses-says : (i : ℕ) → Says (follows new create t (indexOf bearer) (home t bearer) i) ((Loses t bearer new create) i)
     unfolding follows
     loses-says i = says-and (dedicated-says (roleAt t i)) (loses-at i)
 
     -- the connection is released exactly where its default loses a filter
-    pub freed-says : Says freed (SomeBelow bearerCount (λ i. (roleAt t i ≡ Default) × SomeBelow placeCount (Conflict i)))
+    pub freed-says : Says freed (SomeBelow bearerCount (λ i. (roleAt t i ≡ Default) × SomeBelow placeCount (Conflict t bearer new create i)))
     unfolding released frees
     freed-says = says-any bearerCount (λ i l. says-and (default-says (roleAt t i)) (loses-at i))
 
     -- where it stays, the list is exactly the dedicated bearers of the connection that lose a filter
-    pub follow-ups : freed ≡ false → Lists Loses (laid t bearer new create .reply .follow)
+    pub follow-ups : freed ≡ false → Lists (Loses t bearer new create) (laid t bearer new create .reply .follow)
     unfolding followers
     follow-ups h =
-        subst (λ (o : Outcome). Lists Loses (o .reply .follow)) (sym (laid-by false h))
-        (lists (follows new create t (indexOf bearer) (home t bearer)) Loses (λ i l. loses-says i))
+        subst (λ (o : Outcome). Lists (Loses t bearer new create) (o .reply .follow)) (sym (laid-by false h))
+        (lists (follows new create t (indexOf bearer) (home t bearer)) (Loses t bearer new create) (λ i l. loses-says i))
 
     -- THE FRAME. On a bearer that is not named
     other : (i j : ℕ) → (i ≡ indexOf bearer → ⊥)
@@ -213,11 +172,11 @@ module _ (t : Table) (bearer : ℕ) (new : List Filter) where
     unfolding placedIn placed old
     other i j n = rw (says-no (says-eq i (indexOf bearer)) n)
 
-    other-stays : (i j : ℕ) → (i ≡ indexOf bearer → ⊥) → (TakenAt i j → ⊥) → laidHere .filter i j ≡ filterAt t i j
+    other-stays : (i j : ℕ) → (i ≡ indexOf bearer → ⊥) → (TakenAt t bearer new i j → ⊥) → laidHere .filter i j ≡ filterAt t i j
     other-stays i j n q = other i j n ∙ ap (λ (b : Bool). pick b emptyFilter (filterAt t i j)) (says-no (taken-says i j) q)
 
     -- who loses a filter is active, and no default, else the connection would be released
-    loser : WellFormed t → freed ≡ false → (i : ℕ) → i < bearerCount → SomeBelow placeCount (Conflict i) → IsDedicated t i
+    loser : WellFormed t → freed ≡ false → (i : ℕ) → i < bearerCount → SomeBelow placeCount (Conflict t bearer new create i) → IsDedicated t i
     loser w h i l c = go (roleAt t i) refl
       where
         go : (r : Role) → roleAt t i ≡ r → IsDedicated t i
@@ -236,7 +195,7 @@ module _ (t : Table) (bearer : ℕ) (new : List Filter) where
             lost = λ j m q. at j m ∙ other i j n ∙ ap (λ (b : Bool). pick b emptyFilter (filterAt t i j)) (taken-says i j .from q);
             stays = λ j m q. at j m ∙ other-stays i j n q;
           };
-          listed = λ q. let c : SomeBelow placeCount (Conflict i) = record { at = q .at; below = q .below; holds = (λ z. n (z .0), q .holds) } in
+          listed = λ q. let c : SomeBelow placeCount (Conflict t bearer new create i) = record { at = q .at; below = q .below; holds = (λ z. n (z .0), q .holds) } in
               let d = loser w h i l c in
               (d, follow-ups h .all i l (d, c));
         }
@@ -261,7 +220,7 @@ module _ (t : Table) (bearer : ℕ) (new : List Filter) where
 
     -- where it stays, a bearer that loses nothing is as it was
     pub untouched : freed ≡ false → (i : ℕ) → i < bearerCount → length (bearerAt t i .row) ≡ placeCount → (i ≡ indexOf bearer → ⊥)
-        → (SomeBelow placeCount (TakenAt i) → ⊥) → bearerAt (laid t bearer new create .table) i ≡ bearerAt t i
+        → (SomeBelow placeCount (TakenAt t bearer new i) → ⊥) → bearerAt (laid t bearer new create .table) i ≡ bearerAt t i
     untouched h i l long ne n =
         ap (λ (o : Outcome). bearerAt (o .table) i) (laid-by false h)
         ∙ bearer-as t laidHere i l long (λ j m. other-stays i j ne (λ q. n (record { at = j; below = m; holds = q }))) refl refl
@@ -282,38 +241,6 @@ module _ (t : Table) (bearer : ℕ) (new : List Filter) where
         go false h = untouched h i l long (λ e. n (ap (connectionAt t) e)) (λ q. n (q .holds .0 .0))
 
 -- ---- a modify message as a whole
--- the transaction is as before, or it was x and is closed
-abbrev pub Closing : Table → Table → ℕ → ℕ → Type 0
-Closing t s x i = (transactionAt s i ≡ transactionAt t i) ⊎ ((transactionAt t i ≡ x) × (transactionAt s i ≡ 0))
-
--- the bearer is as before, but perhaps for a transaction that is closed
-pub record Stays (t s : Table) (x i : ℕ) : Type 0 where
-  pub role : roleAt s i ≡ roleAt t i
-  pub transaction : Closing t s x i
-  pub row : bearerAt s i .row ≡ bearerAt t i .row
-
--- it is that, and has lost exactly its filters whose precedence a new filter has; it is dedicated, and in the follow-up list
-pub record Shortened (t : Table) (bearer x : ℕ) (new : List Filter) (o : Outcome) (i : ℕ) : Type 0 where
-  pub role : roleAt (o .table) i ≡ roleAt t i
-  pub transaction : Closing t (o .table) x i
-  pub filters : Trimmed t bearer new (o .table) i
-  pub some : SomeBelow placeCount (TakenAt t bearer new i)
-  pub dedicated : IsDedicated t i
-  pub listed : Listed (o .reply .follow) i
-  pub answer : o .reply .answer ≡ Accept bearer
-
--- it is idle with nothing, since its connection is released
-pub record Gone (t : Table) (bearer : ℕ) (o : Outcome) (i : ℕ) : Type 0 where
-  pub connection : connectionAt t i ≡ home t bearer
-  pub void : Void (view (o .table)) i
-  pub answer : IsRelease t (home t bearer) (o .reply .answer)
-
--- THE WAYS of a bearer that the message does not name
-pub data Unnamed (t : Table) (bearer x : ℕ) (new : List Filter) (o : Outcome) (i : ℕ) : Type 0 where
-  stays : Stays t (o .table) x i → (Listed (o .reply .follow) i → ⊥) → Unnamed t bearer x new o i
-  shortened : Shortened t bearer x new o i → Unnamed t bearer x new o i
-  gone : Gone t bearer o i → Unnamed t bearer x new o i
-
 stays-self : (t : Table) (x i : ℕ) → Stays t t x i
 stays-self t x i = record { role = refl; transaction = inl refl; row = refl }
 
@@ -512,16 +439,6 @@ module _ (t : Table) (ok : TableInRange t) (bearer x : ℕ) (value : List ℕ) (
       go (gone h) = absurd (n (h .connection))
 
 -- ---- the follow-up list of a modify message as a whole
--- the operation brings filters, and the message is accepted
-abbrev pub Brings : ℕ → List ℕ → Outcome → SetOperation → Type 0
-Brings bearer value o operation = (readElement value .answer ≡ Filters operation) × (o .reply .answer ≡ Accept bearer)
-
-pub record Notes (t : Table) (bearer : ℕ) (value : List ℕ) (o : Outcome) : Type 0 where
-  -- then the list is exactly the dedicated bearers of the connection that lose a filter, the named one included ..
-  pub listed : (operation : SetOperation) → Brings bearer value o operation → Lists (Loses t bearer (readElement value .filters) (creates operation)) (o .reply .follow)
-  -- .. and else nobody
-  pub none : ((operation : SetOperation) → Brings bearer value o operation → ⊥) → o .reply .follow ≡ followOf []
-
 nobody : (t : Table) (bearer : ℕ) (value : List ℕ) (o : Outcome) → ((operation : SetOperation) → Brings bearer value o operation → ⊥) → o .reply .follow ≡ followOf []
     → Notes t bearer value o
 nobody t bearer value o n e = record { listed = λ operation h. absurd (n operation h); none = λ _. e }

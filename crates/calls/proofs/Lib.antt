@@ -1,4 +1,3 @@
-pub mod Examples
 pub mod Typed
 pub mod Rows
 pub mod Views
@@ -7,3 +6,4 @@ pub mod Whole
 pub mod Laying
 pub mod Theorems
 pub mod Followers
+pub mod Answers

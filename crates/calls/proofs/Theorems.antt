@@ -1,8 +1,7 @@
 -- The theorems of the layer.
 use mathlib.Core.Path.{_≡_, refl}
-use mathlib.Core.Bool.{Bool, true, false, _&&_, _||_}
+use mathlib.Core.Bool.{Bool, true, false, not, _&&_, _||_}
 use mathlib.Core.List.{List}
-use mathlib.Core.Logic.{_⊎_, inl, inr}
 use Prim.Native.Nat.{ℕ}
 use lib.Dec.{eqb}
 use Rattle.laws.specs.Says.{pick}
@@ -20,6 +19,7 @@ use Rattle.calls.specs.declared.reply.Cause.the-variants.{Transaction}
 use Rattle.calls.specs.declared.reply.Answer.the-variants.{Release, Reattach}
 use Rattle.calls.specs.declared.reply.Outcome.{Outcome}
 use Rattle.calls.specs.Reply.{numberOf, rejected}
+use Rattle.calls.specs.Changes.{Refuses, Keeps}
 use Rattle.calls.specs.Steps.{isOpen, closed, openedView, empties}
 use Rattle.calls.specs.Lay.{released, onlyConnection, laidBy, laidOn, laid}
 use Rattle.calls.specs.Modify.{malformed, mismatch, operationOf, headFine, creates, deleteFilters, deletedTft, modifiedBy, modifyRead, modifyNamed, modifyOf}
@@ -52,13 +52,6 @@ module _ (t : Table) (e : wellFormed t ≡ false) where
   start-malformed x bearer = rw e
 
 -- ---- every refusal leaves the table as it was, but for the transaction matched at step 2
-abbrev pub Refuses : Outcome → Type 0
-Refuses o = numberOf (o .reply .answer) ≡ 0 → ⊥
-
--- where it refuses, the table is t
-abbrev pub Keeps : Table → Outcome → Type 0
-Keeps t o = Refuses o → o .table ≡ t
-
 pick-keeps : (b : Bool) (t : Table) (o p : Outcome) → Keeps t o → Keeps t p → Keeps t (pick b o p)
 pick-keeps true t o p k l = k
 pick-keeps false t o p k l = l
@@ -73,7 +66,7 @@ laid-by-number : (b : Bool) (t : Table) (bearer connection : ℕ) (new : List Fi
 laid-by-number true t bearer connection new create = release-number (onlyConnection t connection) connection
 laid-by-number false t bearer connection new create = refl
 
-laid-number : (t : Table) (bearer : ℕ) (new : List Filter) (create : Bool) → numberOf (laid t bearer new create .reply .answer) ≡ 0
+pub laid-number : (t : Table) (bearer : ℕ) (new : List Filter) (create : Bool) → numberOf (laid t bearer new create .reply .answer) ≡ 0
 unfolding laid laidOn
 laid-number t bearer new create =
     let connection = connectionAt t (indexOf bearer) in
@@ -129,20 +122,20 @@ activate-named-keeps t bearer link value =
 
 -- steps 1 and 2 of both: t before the transaction is closed, s after
 matched : (w m : Bool) (t s : Table) (bearer : ℕ) (o : Outcome) → Keeps s o
-    → let out = pick w (pick m (rejected t bearer Transaction) o) (malformed t) in Refuses out → (out .table ≡ t) ⊎ (out .table ≡ s)
-matched true true t s bearer o k r = inl refl
-matched true false t s bearer o k r = inr (k r)
-matched false m t s bearer o k r = inl refl
+    → let out = pick w (pick m (rejected t bearer Transaction) o) (malformed t) in Refuses out → out .table ≡ pick (w && not m) s t
+matched true true t s bearer o k r = refl
+matched true false t s bearer o k r = k r
+matched false m t s bearer o k r = refl
 
 module _ (t : Table) where
-  pub modify-refused : (bearer x : ℕ) (value : List ℕ)
-      → let out = modifyOf t bearer x value in Refuses out → (out .table ≡ t) ⊎ (out .table ≡ closed t x)
+  -- a transaction that is matched at step 2 is closed, whatever follows
+  pub modify-refused : (bearer x : ℕ) (value : List ℕ) → Keeps (pick (wellFormed t && not (mismatch t x)) (closed t x) t) (modifyOf t bearer x value)
   unfolding modifyOf
   modify-refused bearer x value =
       matched (wellFormed t) (mismatch t x) t (closed t x) bearer (modifyNamed (closed t x) bearer value) (modify-named-keeps (closed t x) bearer value)
 
   pub activate-dedicated-refused : (bearer link x : ℕ) (value : List ℕ)
-      → let out = activateDedicatedOf t bearer link x value in Refuses out → (out .table ≡ t) ⊎ (out .table ≡ closed t x)
+      → Keeps (pick (wellFormed t && not (mismatch t x)) (closed t x) t) (activateDedicatedOf t bearer link x value)
   unfolding activateDedicatedOf
   activate-dedicated-refused bearer link x value =
       matched

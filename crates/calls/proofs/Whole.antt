@@ -40,6 +40,7 @@ use Rattle.calls.specs.Steps.{opensAt, isOpen, ownerBelow, closedView, c
 use Rattle.calls.specs.Lay.{placedIn, laidView, released, laidBy, laidOn, laid}
 use Rattle.calls.specs.Modify.{creates, mismatch, operationOf, headFine, deleteFilters, deletedTft, modifiedBy, modifyRead, modifyNamed, modifyOf}
 use Rattle.calls.specs.Others.{free, activateDefaultOf, activatedBy, activateRead, activateNamed, activateDedicatedOf, deactivateOf, rejectedBy, rejectOf, startOf}
+use Rattle.calls.specs.Changes.{Kept}
 use Rattle.calls.proofs.Views.{role-built}
 use Rattle.calls.proofs.Kept.{well-built, closed-well, well-started, not-open, ActiveDefault, well-default, well-dedicated, dropped-well, well-deleted, WellSet, laid-cases, active-at, laid-well}
 
@@ -164,11 +165,6 @@ module _ (t : Table) (r : TableInRange t) where
       }
 
 -- ---- The steps
--- a table that is well formed, every number in its type's range
-pub record Kept (s : Table) : Type 0 where
-  pub inRange : TableInRange s
-  pub well : WellFormed s
-
 kept-built : (v : View) → ViewInRange v → Well v → Kept (build v)
 kept-built v r w = record { inRange = built-in-range v r; well = well-built v w }
 

@@ -3,3 +3,4 @@ pub mod Steps
 pub mod Lay
 pub mod Modify
 pub mod Others
+pub mod Changes

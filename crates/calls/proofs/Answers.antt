@@ -1,0 +1,109 @@
+-- Each call gives a number of document 01's list, of those that are its own; 0 where nothing is refused.
+-- Assumes nothing.
+use mathlib.Core.Path.{_≡_, refl, sym, subst}
+use mathlib.Core.Bool.{Bool, true, false, _&&_, _||_}
+use mathlib.Core.List.{List, [], _∷_}
+use Prim.Native.Nat.{ℕ}
+use lib.Dec.{eqb}
+use Rattle.laws.specs.Says.{pick}
+use Rattle.laws.specs.Lists.{isIn}
+use Rattle.filter.specs.declared.component.Filter.{Filter}
+use Rattle.element.specs.declared.answer.Cause.{Cause as ReadCause}
+use Rattle.element.specs.declared.answer.Cause.the-variants.{Operation, Semantics, Coding}
+use Rattle.element.specs.declared.answer.BareOperation.the-variants.{DeleteTft, NoOperation}
+use Rattle.element.specs.declared.answer.Answer.{Answer as ReadAnswer}
+use Rattle.element.specs.declared.answer.Answer.the-variants.{Filters, Identifiers, Bare, Refused as readRefused}
+use Rattle.element.specs.declared.answer.Element.{Element}
+use Rattle.element.specs.Read.{readElement}
+use Rattle.table.specs.declared.bearer.Role.the-variants.{Dedicated}
+use Rattle.table.specs.declared.bearer.Table.{Table}
+use Rattle.table.specs.Bearers.{indexOf, transactionAt, build, isIdle, isDefault, isDedicated, roleOf}
+use Rattle.table.specs.WellFormed.{wellFormed}
+use Rattle.calls.specs.declared.reply.Outcome.{Outcome}
+use Rattle.calls.specs.Reply.{causeNumber, numberOf, causeOf}
+use Rattle.calls.specs.Steps.{isOpen, closed, openedView, empties}
+use Rattle.calls.specs.Lay.{laid}
+use Rattle.calls.specs.Modify.{mismatch, operationOf, headFine, creates, deleteFilters, deletedTft, modifiedBy, modifyRead, modifyNamed, modifyOf}
+use Rattle.calls.specs.Others.{free, activateDefaultOf, activatedBy, activateRead, activateNamed, activateDedicatedOf, deactivateOf, rejectOf, startOf}
+use Rattle.calls.specs.Changes.{Gives}
+use Rattle.calls.proofs.Theorems.{laid-number}
+
+-- modify and dedicated activation
+abbrev pub causes : List ℕ
+causes = 0 ∷ 1 ∷ 41 ∷ 42 ∷ 43 ∷ 44 ∷ 45 ∷ 47 ∷ []
+
+pick-gives : (b : Bool) (ns : List ℕ) (o p : Outcome) → Gives ns o → Gives ns p → Gives ns (pick b o p)
+pick-gives true ns o p g h = g
+pick-gives false ns o p g h = h
+
+cause-in : (cause : ReadCause) → isIn (causeNumber (causeOf cause)) causes ≡ true
+unfolding isIn
+cause-in Operation = refl
+cause-in Semantics = refl
+cause-in Coding = refl
+
+laid-gives : (t : Table) (bearer : ℕ) (new : List Filter) (create : Bool) → Gives causes (laid t bearer new create)
+unfolding isIn
+laid-gives t bearer new create = subst (λ (n : ℕ). isIn n causes ≡ true) (sym (laid-number t bearer new create)) refl
+
+modified-gives : (a : ReadAnswer) (t : Table) (bearer : ℕ) (e : Element) → Gives causes (modifiedBy a t bearer e)
+unfolding isIn deleteFilters deletedTft
+modified-gives (readRefused refusal) t bearer e = cause-in (refusal .cause)
+modified-gives (Filters operation) t bearer e = laid-gives t bearer (e .filters) (creates operation)
+modified-gives Identifiers t bearer e = pick-gives (isDedicated (roleOf t bearer) && empties t (indexOf bearer) (e .marks)) causes _ _ refl refl
+modified-gives (Bare DeleteTft) t bearer e = refl
+modified-gives (Bare NoOperation) t bearer e = refl
+
+activated-gives : (a : ReadAnswer) (t : Table) (bearer link : ℕ) (e : Element) → Gives causes (activatedBy a t bearer link e)
+unfolding isIn
+activated-gives (readRefused refusal) t bearer link e = cause-in (refusal .cause)
+activated-gives (Filters operation) t bearer link e = laid-gives (build (openedView t (indexOf bearer) (Dedicated link))) bearer (e .filters) true
+activated-gives Identifiers t bearer link e = refl
+activated-gives (Bare operation) t bearer link e = refl
+
+module _ (t : Table) where
+  pub modify-gives : (bearer x : ℕ) (value : List ℕ) → Gives causes (modifyOf t bearer x value)
+  unfolding isIn modifyOf modifyNamed modifyRead
+  modify-gives bearer x value =
+      let s = closed t x in
+      pick-gives (wellFormed t) causes _ _
+      (pick-gives (mismatch t x) causes _ _ refl
+      (pick-gives (isIdle (roleOf s bearer)) causes _ _ refl
+      (pick-gives (headFine value) causes _ _
+      (pick-gives (isDedicated (roleOf s bearer) && eqb (operationOf value) 2) causes _ _ refl
+      (modified-gives (readElement value .answer) s bearer (readElement value))) refl))) refl
+
+  pub activate-dedicated-gives : (bearer link x : ℕ) (value : List ℕ) → Gives causes (activateDedicatedOf t bearer link x value)
+  unfolding isIn activateDedicatedOf activateNamed activateRead
+  activate-dedicated-gives bearer link x value =
+      let s = closed t x in
+      pick-gives (wellFormed t) causes _ _
+      (pick-gives (mismatch t x) causes _ _ refl
+      (pick-gives (free s bearer && isDefault (roleOf s link)) causes _ _
+      (pick-gives (headFine value) causes _ _
+      (pick-gives (eqb (operationOf value) 1) causes _ _ (activated-gives (readElement value .answer) s bearer link (readElement value)) refl) refl) refl)) refl
+
+  pub activate-default-gives : (bearer : ℕ) → Gives (0 ∷ 1 ∷ 43 ∷ []) (activateDefaultOf t bearer)
+  unfolding isIn activateDefaultOf
+  activate-default-gives bearer =
+      let ns : List ℕ = 0 ∷ 1 ∷ 43 ∷ [] in
+      pick-gives (wellFormed t) ns _ _ (pick-gives (free t bearer) ns _ _ refl refl) refl
+
+  pub deactivate-gives : (bearer x : ℕ) → Gives (0 ∷ 1 ∷ []) (deactivateOf t bearer x)
+  unfolding isIn deactivateOf
+  deactivate-gives bearer x = pick-gives (wellFormed t) (0 ∷ 1 ∷ []) _ _ refl refl
+
+  pub reject-gives : (x cause : ℕ) → Gives (0 ∷ 1 ∷ 3 ∷ []) (rejectOf t x cause)
+  unfolding isIn rejectOf
+  reject-gives x cause =
+      let ns : List ℕ = 0 ∷ 1 ∷ 3 ∷ [] in
+      pick-gives (wellFormed t) ns _ _ (pick-gives (isOpen t x) ns _ _ refl refl) refl
+
+  pub start-gives : (x bearer : ℕ) → Gives (0 ∷ 1 ∷ 4 ∷ 5 ∷ 6 ∷ 7 ∷ []) (startOf t x bearer)
+  unfolding isIn startOf
+  start-gives x bearer =
+      let ns : List ℕ = 0 ∷ 1 ∷ 4 ∷ 5 ∷ 6 ∷ 7 ∷ [] in
+      pick-gives (wellFormed t) ns _ _
+      (pick-gives (eqb x 0 || eqb x 255) ns _ _ refl
+      (pick-gives (isIdle (roleOf t bearer)) ns _ _ refl
+      (pick-gives (eqb (transactionAt t (indexOf bearer)) 0) ns _ _ (pick-gives (isOpen t x) ns _ _ refl refl) refl))) refl
