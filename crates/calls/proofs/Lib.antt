@@ -6,4 +6,5 @@ pub mod Whole
 pub mod Laying
 pub mod Theorems
 pub mod Followers
+pub mod Conflicts
 pub mod Answers

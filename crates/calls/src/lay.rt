@@ -1,11 +1,15 @@
 // New filters laid over a bearer's, with the conflicts that they make in its connection.
 ghost use mathlib.Core.Path.{_≡_};
+ghost use mathlib.Core.Bool.{true, false, not, _&&_, _||_};
 ghost use Prim.Native.Nat.{_<_};
+ghost use lib.ListN.{getD};
 ghost use Rattle.laws.specs.Says.{pick};
-ghost use Rattle.laws.specs.Index.{tab};
-ghost use Rattle.table.specs.Bearers.{build, bearerOf};
+ghost use Rattle.laws.specs.Index.{anyBelow, picks, tab};
+ghost use Rattle.filter.specs.Coding.{held};
+ghost use Rattle.table.specs.declared.bearer.Role.the-variants.{Idle};
+ghost use Rattle.table.specs.Bearers.{emptyFilter, roleAt, identityOf, isDefault, isDedicated, build};
 ghost use Rattle.calls.specs.Reply.{followOf};
-ghost use Rattle.calls.specs.Lay.{old, takes, conflict, placed, loses, placedIn, losesAt, frees, follows, laidView, released, noted, followers, otherAt, onlyConnection, laidOn, laid};
+ghost use Rattle.calls.specs.Lay.{takes, loses, placedIn, losesAt, laidView, noted, onlyConnection, laidOn, laid};
 use crate::reply::Answer;
 use crate::reply::FollowUps;
 use crate::reply::Outcome;
@@ -17,6 +21,7 @@ use crate::steps::without_connection;
 use filter::Filter;
 use filter::coding::held;
 use table::Bearer;
+use table::Role;
 use table::Table;
 use table::bearer::BEARERS;
 use table::bearer::FIRST_IDENTITY;
@@ -25,7 +30,8 @@ use table::bearer::connection_at;
 use table::bearer::index_of;
 use table::bearer::is_dedicated;
 use table::bearer::is_default;
-use table::bearer::role_at;
+
+const PRECEDENCES: usize = 256;
 
 fn choose(b: bool, x: Filter, y: Filter) -> Filter
     ensures { λ r. ⌜ r ≡ pick b x y ⌝ }
@@ -33,164 +39,175 @@ fn choose(b: bool, x: Filter, y: Filter) -> Filter
     if b { x } else { y }
 }
 
-fn old_of(create: bool, named: bool, n: Filter, f: Filter) -> Filter
-    ensures { λ r. ⌜ r ≡ old create named n f ⌝ }
+// For each precedence, whether a new filter has it.
+fn taken_by(new: [Filter; PLACES]) -> [bool; PRECEDENCES]
+    ensures { λ r. ⌜ r ≡ tab (takes new) 256 ⌝ }
 {
-    choose(named & (create | held(n)), Filter::bare(0, 0), f)
-}
-
-fn takes_it(new: [Filter; PLACES], p: u8) -> bool
-    ensures { λ r. ⌜ r ≡ takes new p ⌝ }
-{
-    let mut any = false;
+    let mut taken = [false; PRECEDENCES];
     for j in 0..PLACES {
         let f = new[j];
-        any = any | (held(f) & (f.precedence == p));
+        let p = f.precedence as usize;
+        let before = taken[p];
+        taken[p] = before | held(f);
     }
-    any
+    taken
 }
 
-fn in_conflict(new: [Filter; PLACES], mine: bool, f: Filter) -> bool
-    ensures { λ r. ⌜ r ≡ conflict new mine f ⌝ }
+// `taken`: a new filter has this one's precedence. Most have none, so few are looked into.
+fn in_conflict(taken: bool, mine: bool, f: Filter) -> bool
+    ensures { λ r. ⌜ r ≡ mine && held f && taken ⌝ }
 {
-    mine & held(f) & takes_it(new, f.precedence)
+    if mine & taken { held(f) } else { false }
 }
 
-fn placed_at(
-    new: [Filter; PLACES],
-    create: bool,
-    named: bool,
-    mine: bool,
-    n: Filter,
-    f: Filter,
-) -> Filter
-    ensures { λ r. ⌜ r ≡ placed new create named mine n f ⌝ }
+fn remains(create: bool, named: bool, n: Filter) -> bool
+    ensures { λ r. ⌜ r ≡ not (named && (create || held n)) ⌝ }
 {
-    let o = old_of(create, named, n, f);
+    if named { !(create | held(n)) } else { true }
+}
+
+fn placed_at(create: bool, named: bool, conflicts: bool, n: Filter, f: Filter) -> Filter
+    ensures { λ r. ⌜ r ≡ pick (named && held n) n (pick ((named && create) || conflicts) emptyFilter f) ⌝ }
+{
     choose(
         named & held(n),
         n,
-        choose(in_conflict(new, mine, o), Filter::bare(0, 0), o),
+        choose((named & create) | conflicts, Filter::bare(0, 0), f),
     )
 }
 
 fn row_loses(
     new: [Filter; PLACES],
+    taken: [bool; PRECEDENCES],
     create: bool,
     named: bool,
-    mine: bool,
     row: [Filter; PLACES],
 ) -> bool
-    ensures { λ r. ⌜ r ≡ loses new create named mine row ⌝ }
+    requires { ⌜ taken ≡ tab (takes new) 256 ⌝ }
+    ensures { λ r. ⌜ r ≡ loses new create named true row ⌝ }
 {
     let mut any = false;
     for j in 0..PLACES {
         let n = new[j];
         let f = row[j];
-        any = any | in_conflict(new, mine, old_of(create, named, n, f));
+        let p = f.precedence as usize;
+        let took = taken[p];
+        any = any | (remains(create, named, n) & in_conflict(took, true, f));
     }
     any
 }
 
 fn row_after(
     new: [Filter; PLACES],
+    taken: [bool; PRECEDENCES],
     create: bool,
     named: bool,
     mine: bool,
     row: [Filter; PLACES],
 ) -> [Filter; PLACES]
+    requires { ⌜ taken ≡ tab (takes new) 256 ⌝ }
     ensures { λ r. ⌜ r ≡ tab (placedIn new create named mine row) 16 ⌝ }
 {
     let mut s = row;
     for j in 0..PLACES {
         let n = new[j];
         let f = row[j];
-        s[j] = placed_at(new, create, named, mine, n, f);
+        let p = f.precedence as usize;
+        let took = taken[p];
+        s[j] = placed_at(create, named, in_conflict(took, mine, f), n, f);
     }
     s
 }
 
-fn loses_at(
-    new: [Filter; PLACES],
-    create: bool,
-    t: Table,
-    k: usize,
-    connection: u8,
-    i: usize,
-) -> bool
-    requires { ⌜ i < 11 ⌝ }
-    ensures { λ r. ⌜ r ≡ losesAt new create t k connection i ⌝ }
+fn roles_of(t: Table) -> [Role; BEARERS]
+    ensures { λ r. ⌜ r ≡ tab (roleAt t) 11 ⌝ }
 {
-    let b = t.bearers[i];
-    let row = b.row;
-    row_loses(new, create, i == k, of_connection(t, connection, i), row)
+    let mut roles = [Role::Idle; BEARERS];
+    for i in 0..BEARERS {
+        let b = t.bearers[i];
+        let role = b.role;
+        roles[i] = role;
+    }
+    roles
 }
 
-fn frees_at(
+// For each bearer, whether it loses a filter.
+fn losses(
     new: [Filter; PLACES],
+    taken: [bool; PRECEDENCES],
     create: bool,
     t: Table,
+    roles: [Role; BEARERS],
     k: usize,
     connection: u8,
-    i: usize,
-) -> bool
-    requires { ⌜ i < 11 ⌝ }
-    ensures { λ r. ⌜ r ≡ frees new create t k connection i ⌝ }
+) -> [bool; BEARERS]
+    requires { ⌜ (taken ≡ tab (takes new) 256) × (roles ≡ tab (roleAt t) 11) ⌝ }
+    ensures { λ r. ⌜ r ≡ tab (losesAt new create t k connection) 11 ⌝ }
 {
-    is_default(role_at(t, i)) & loses_at(new, create, t, k, connection, i)
+    let mut lost = [false; BEARERS];
+    for i in 0..BEARERS {
+        let role = roles[i];
+        if of_connection(i, role, connection) {
+            let b = t.bearers[i];
+            let row = b.row;
+            lost[i] = row_loses(new, taken, create, i == k, row);
+        }
+    }
+    lost
 }
 
-fn follows_at(
-    new: [Filter; PLACES],
-    create: bool,
-    t: Table,
-    k: usize,
-    connection: u8,
-    i: usize,
-) -> bool
-    requires { ⌜ i < 11 ⌝ }
-    ensures { λ r. ⌜ r ≡ follows new create t k connection i ⌝ }
-{
-    is_dedicated(role_at(t, i)) & loses_at(new, create, t, k, connection, i)
-}
-
-fn is_released(new: [Filter; PLACES], create: bool, t: Table, k: usize, connection: u8) -> bool
-    ensures { λ r. ⌜ r ≡ released new create t k connection ⌝ }
+fn is_released(roles: [Role; BEARERS], lost: [bool; BEARERS]) -> bool
+    ensures { λ r. ⌜ r ≡ anyBelow (λ i. isDefault (getD roles i Idle) && getD lost i false) 11 ⌝ }
 {
     let mut any = false;
     for i in 0..BEARERS {
-        any = any | frees_at(new, create, t, k, connection, i);
+        let role = roles[i];
+        any = any | (is_default(role) & lost[i]);
     }
     any
 }
 
 fn laid_bearer(
     new: [Filter; PLACES],
+    taken: [bool; PRECEDENCES],
     create: bool,
-    t: Table,
-    k: usize,
-    connection: u8,
-    i: usize,
+    named: bool,
+    mine: bool,
+    b: Bearer,
 ) -> Bearer
-    requires { ⌜ i < 11 ⌝ }
-    ensures { λ r. ⌜ r ≡ bearerOf (laidView new create t k connection) i ⌝ }
+    requires { ⌜ taken ≡ tab (takes new) 256 ⌝ }
+    ensures { λ r. ⌜ r ≡ record { role = b .role; transaction = b .transaction; row = tab (placedIn new create named mine (b .row)) 16 } ⌝ }
 {
-    let b = t.bearers[i];
     let role = b.role;
     let row = b.row;
     Bearer {
         role,
         transaction: b.transaction,
-        row: row_after(new, create, i == k, of_connection(t, connection, i), row),
+        row: row_after(new, taken, create, named, mine, row),
     }
 }
 
-fn laid_table(new: [Filter; PLACES], create: bool, t: Table, k: usize, connection: u8) -> Table
+// Bearers that are not named and lose nothing stay as they are.
+fn laid_table(
+    new: [Filter; PLACES],
+    taken: [bool; PRECEDENCES],
+    create: bool,
+    t: Table,
+    k: usize,
+    connection: u8,
+    lost: [bool; BEARERS],
+) -> Table
+    requires { ⌜ (taken ≡ tab (takes new) 256) × (lost ≡ tab (losesAt new create t k connection) 11) ⌝ }
     ensures { λ r. ⌜ r ≡ build (laidView new create t k connection) ⌝ }
 {
     let mut s = t;
     for i in 0..BEARERS {
-        s.bearers[i] = laid_bearer(new, create, t, k, connection, i);
+        if (i == k) | lost[i] {
+            let b = t.bearers[i];
+            let role = b.role;
+            let mine = of_connection(i, role, connection);
+            s.bearers[i] = laid_bearer(new, taken, create, i == k, mine, b);
+        }
     }
     s
 }
@@ -208,25 +225,15 @@ fn note(s: FollowUps, follows: bool, bearer: u8) -> FollowUps
     f
 }
 
-fn all_follow(new: [Filter; PLACES], create: bool, t: Table, k: usize, connection: u8) -> FollowUps
-    ensures { λ r. ⌜ r ≡ followOf (followers new create t k connection) ⌝ }
+fn all_follow(roles: [Role; BEARERS], lost: [bool; BEARERS]) -> FollowUps
+    ensures { λ r. ⌜ r ≡ followOf (picks (λ i. isDedicated (getD roles i Idle) && getD lost i false) identityOf 11) ⌝ }
 {
     let mut s = none_follow();
     for i in 0..BEARERS {
-        s = note(
-            s,
-            follows_at(new, create, t, k, connection, i),
-            i as u8 + FIRST_IDENTITY,
-        );
+        let role = roles[i];
+        s = note(s, is_dedicated(role) & lost[i], i as u8 + FIRST_IDENTITY);
     }
     s
-}
-
-fn other_at(t: Table, connection: u8, i: usize) -> bool
-    requires { ⌜ i < 11 ⌝ }
-    ensures { λ r. ⌜ r ≡ otherAt t connection i ⌝ }
-{
-    is_default(role_at(t, i)) & !(i as u8 + FIRST_IDENTITY == connection)
 }
 
 fn only_connection(t: Table, connection: u8) -> bool
@@ -234,7 +241,9 @@ fn only_connection(t: Table, connection: u8) -> bool
 {
     let mut any = false;
     for i in 0..BEARERS {
-        any = any | other_at(t, connection, i);
+        let b = t.bearers[i];
+        let role = b.role;
+        any = any | (is_default(role) & !(i as u8 + FIRST_IDENTITY == connection));
     }
     !any
 }
@@ -243,12 +252,15 @@ fn lay_on(t: Table, bearer: u8, connection: u8, new: [Filter; PLACES], create: b
     ensures { λ r. ⌜ r ≡ laidOn t bearer connection new create ⌝ }
 {
     let k = index_of(bearer);
-    if !is_released(new, create, t, k, connection) {
+    let taken = taken_by(new);
+    let roles = roles_of(t);
+    let lost = losses(new, taken, create, t, roles, k, connection);
+    if !is_released(roles, lost) {
         return Outcome {
-            table: laid_table(new, create, t, k, connection),
+            table: laid_table(new, taken, create, t, k, connection, lost),
             reply: Reply {
                 answer: Answer::Accept(bearer),
-                follow: all_follow(new, create, t, k, connection),
+                follow: all_follow(roles, lost),
             },
         };
     }

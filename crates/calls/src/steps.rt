@@ -1,9 +1,11 @@
 // The steps that calls are made of.
 ghost use mathlib.Core.Path.{_≡_};
+ghost use mathlib.Core.Bool.{true};
+ghost use lib.Dec.{eqb};
 ghost use Prim.Native.Nat.{_<_};
 ghost use Rattle.laws.specs.Says.{pick};
 ghost use Rattle.laws.specs.Index.{anyBelow, tab};
-ghost use Rattle.table.specs.Bearers.{emptyFilter, build, bearerOf};
+ghost use Rattle.table.specs.Bearers.{emptyFilter, build, connectionOf};
 ghost use Rattle.calls.specs.Steps.{opensAt, isOpen, ownerBelow, closedView, closed, startedView, openedView, cutView, ofConnection, isAt, cutBearer, dropped, deletedIn, deletedView, holdsIn, staysIn, empties};
 use filter::Filter;
 use filter::coding::held;
@@ -13,26 +15,18 @@ use table::Table;
 use table::bearer::BEARERS;
 use table::bearer::FIRST_IDENTITY;
 use table::bearer::PLACES;
-use table::bearer::connection_at;
 use table::bearer::index_of;
 use table::bearer::role_of;
 
 const LAST_TRANSACTION: u8 = 254;
-
-fn opens_at(t: Table, x: u8, i: usize) -> bool
-    requires { ⌜ i < 11 ⌝ }
-    ensures { λ r. ⌜ r ≡ opensAt t x i ⌝ }
-{
-    let b = t.bearers[i];
-    b.transaction == x
-}
 
 fn opens_any(t: Table, x: u8) -> bool
     ensures { λ r. ⌜ r ≡ anyBelow (opensAt t x) 11 ⌝ }
 {
     let mut any = false;
     for i in 0..BEARERS {
-        any = any | opens_at(t, x, i);
+        let b = t.bearers[i];
+        any = any | (b.transaction == x);
     }
     any
 }
@@ -49,23 +43,12 @@ pub(crate) fn owner_of(t: Table, x: u8) -> u8
 {
     let mut owner: u8 = 0;
     for i in 0..BEARERS {
-        if opens_at(t, x, i) {
+        let b = t.bearers[i];
+        if b.transaction == x {
             owner = i as u8 + FIRST_IDENTITY;
         }
     }
     owner
-}
-
-fn closed_bearer(t: Table, x: u8, i: usize) -> Bearer
-    requires { ⌜ i < 11 ⌝ }
-    ensures { λ r. ⌜ r ≡ bearerOf (closedView t x) i ⌝ }
-{
-    let b = t.bearers[i];
-    let mut c = b;
-    if b.transaction == x {
-        c.transaction = 0;
-    }
-    c
 }
 
 pub(crate) fn close(t: Table, x: u8) -> Table
@@ -76,47 +59,38 @@ pub(crate) fn close(t: Table, x: u8) -> Table
     }
     let mut s = t;
     for i in 0..BEARERS {
-        s.bearers[i] = closed_bearer(t, x, i);
+        let b = t.bearers[i];
+        if b.transaction == x {
+            s.bearers[i] = Bearer {
+                transaction: 0,
+                ..b
+            };
+        }
     }
     s
-}
-
-fn started_bearer(t: Table, k: usize, x: u8, i: usize) -> Bearer
-    requires { ⌜ i < 11 ⌝ }
-    ensures { λ r. ⌜ r ≡ bearerOf (startedView t k x) i ⌝ }
-{
-    let b = t.bearers[i];
-    let mut c = b;
-    if i == k {
-        c.transaction = x;
-    }
-    c
 }
 
 pub(crate) fn started_table(t: Table, k: usize, x: u8) -> Table
     ensures { λ r. ⌜ r ≡ build (startedView t k x) ⌝ }
 {
     let mut s = t;
-    for i in 0..BEARERS {
-        s.bearers[i] = started_bearer(t, k, x, i);
+    if k < BEARERS {
+        let b = t.bearers[k];
+        s.bearers[k] = Bearer {
+            transaction: x,
+            ..b
+        };
     }
     s
-}
-
-fn opened_bearer(t: Table, k: usize, role: Role, i: usize) -> Bearer
-    requires { ⌜ i < 11 ⌝ }
-    ensures { λ r. ⌜ r ≡ bearerOf (openedView t k role) i ⌝ }
-{
-    let b = t.bearers[i];
-    if i == k { Bearer { role, ..b } } else { b }
 }
 
 pub(crate) fn opened_table(t: Table, k: usize, role: Role) -> Table
     ensures { λ r. ⌜ r ≡ build (openedView t k role) ⌝ }
 {
     let mut s = t;
-    for i in 0..BEARERS {
-        s.bearers[i] = opened_bearer(t, k, role, i);
+    if k < BEARERS {
+        let b = t.bearers[k];
+        s.bearers[k] = Bearer { role, ..b };
     }
     s
 }
@@ -135,10 +109,16 @@ fn cut_bearer(gone: bool, b: Bearer) -> Bearer
     }
 }
 
-pub(crate) fn of_connection(t: Table, connection: u8, i: usize) -> bool
-    ensures { λ r. ⌜ r ≡ ofConnection t connection i ⌝ }
+// Whether a bearer of this role at index i is of the connection.
+pub(crate) fn of_connection(i: usize, role: Role, connection: u8) -> bool
+    requires { ⌜ i < 11 ⌝ }
+    ensures { λ r. ⌜ r ≡ eqb (connectionOf i role) connection ⌝ }
 {
-    connection_at(t, i) == connection
+    match role {
+        Role::Idle => 0 == connection,
+        Role::Default => i as u8 + FIRST_IDENTITY == connection,
+        Role::Dedicated(link) => link == connection,
+    }
 }
 
 pub(crate) fn without_connection(t: Table, connection: u8) -> Table
@@ -147,7 +127,8 @@ pub(crate) fn without_connection(t: Table, connection: u8) -> Table
     let mut s = t;
     for i in 0..BEARERS {
         let b = t.bearers[i];
-        s.bearers[i] = cut_bearer(of_connection(t, connection, i), b);
+        let role = b.role;
+        s.bearers[i] = cut_bearer(of_connection(i, role, connection), b);
     }
     s
 }
@@ -156,9 +137,9 @@ fn without_bearer(t: Table, k: usize) -> Table
     ensures { λ r. ⌜ r ≡ build (cutView t (isAt k)) ⌝ }
 {
     let mut s = t;
-    for i in 0..BEARERS {
-        let b = t.bearers[i];
-        s.bearers[i] = cut_bearer(i == k, b);
+    if k < BEARERS {
+        let b = t.bearers[k];
+        s.bearers[k] = cut_bearer(true, b);
     }
     s
 }
@@ -180,37 +161,28 @@ fn kept_unless(gone: bool, f: Filter) -> Filter
     if gone { Filter::bare(0, 0) } else { f }
 }
 
-fn deleted_row(named: bool, marks: [bool; PLACES], row: [Filter; PLACES]) -> [Filter; PLACES]
-    ensures { λ r. ⌜ r ≡ tab (deletedIn named marks row) 16 ⌝ }
+fn deleted_row(marks: [bool; PLACES], row: [Filter; PLACES]) -> [Filter; PLACES]
+    ensures { λ r. ⌜ r ≡ tab (deletedIn true marks row) 16 ⌝ }
 {
     let mut s = row;
     for j in 0..PLACES {
         let f = row[j];
-        s[j] = kept_unless(named & marks[j], f);
+        s[j] = kept_unless(marks[j], f);
     }
     s
-}
-
-fn deleted_bearer(t: Table, k: usize, marks: [bool; PLACES], i: usize) -> Bearer
-    requires { ⌜ i < 11 ⌝ }
-    ensures { λ r. ⌜ r ≡ bearerOf (deletedView t k marks) i ⌝ }
-{
-    let b = t.bearers[i];
-    let role = b.role;
-    let row = b.row;
-    Bearer {
-        role,
-        transaction: b.transaction,
-        row: deleted_row(i == k, marks, row),
-    }
 }
 
 pub(crate) fn deleted_table(t: Table, k: usize, marks: [bool; PLACES]) -> Table
     ensures { λ r. ⌜ r ≡ build (deletedView t k marks) ⌝ }
 {
     let mut s = t;
-    for i in 0..BEARERS {
-        s.bearers[i] = deleted_bearer(t, k, marks, i);
+    if k < BEARERS {
+        let b = t.bearers[k];
+        let row = b.row;
+        s.bearers[k] = Bearer {
+            row: deleted_row(marks, row),
+            ..b
+        };
     }
     s
 }

@@ -5,4 +5,4 @@ use Rattle.calls.proofs.lay.laid_bearer.Statement.{statement}
 use Rattle.calls.proofs.lay.laid_bearer.Tie as tie
 
 pub laid-bearer-spec : {M : Type 1} → statement M
-laid-bearer-spec = tie.close (tie.spec (λ c. search needs) (λ c. search needs) (λ c κs. search needs) (λ c κs. search needs) (λ c. cc))
+laid-bearer-spec = tie.close (tie.spec (λ c κs. search needs) (λ c. rw (c .row-after .ensures)))

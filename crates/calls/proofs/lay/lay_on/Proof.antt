@@ -12,6 +12,7 @@ use Rattle.calls.specs.declared.reply.Answer.the-variants.{Accept}
 use Rattle.calls.specs.declared.reply.Outcome.{Outcome}
 use Rattle.calls.specs.Reply.{outcome}
 use Rattle.calls.specs.Lay.{released, laidView, followers, laidOn}
+use Rattle.calls.proofs.Conflicts.{released-by, followers-by}
 use borrow.Author.Needs.{needs}
 use Rattle.calls.proofs.lay.lay_on.Statement.{statement}
 use Rattle.calls.proofs.lay.lay_on.Tie as tie
@@ -28,18 +29,27 @@ module _ (t : Table) (bearer connection : ℕ) (new : List Filter) (create : Boo
 returns : tie.Need-returns
 returns c =
     let p = c .before .before .before in
-    let a = p .before .before .args in
-    rw (c .before .laid-table .ensures, c .all-follow .ensures)
-    (not-released (a .t) (a .bearer) (a .connection) (a .new) (a .create) (p .before .index-of .result) (p .before .index-of .ensures)
-    (sym (p .is-released .ensures) ∙ not-true (p .is-released .result) (c .before .before .if1 .taken)))
+    let lost = p .before .losses in
+    let roles = p .before .before .roles-of in
+    let index = p .before .before .before .before .index-of in
+    let a = p .before .before .before .before .before .args in
+    rw (c .before .laid-table .ensures, c .all-follow .ensures, followers-by (a .new) (a .create) (a .t) (index .result) (a .connection) (lost .result) (lost .ensures) (roles .result) (roles .ensures))
+    (not-released (a .t) (a .bearer) (a .connection) (a .new) (a .create) (index .result) (index .ensures)
+    (sym (released-by (a .new) (a .create) (a .t) (index .result) (a .connection) (lost .result) (lost .ensures) (roles .result) (roles .ensures)) ∙ sym (p .is-released .ensures)
+    ∙ not-true (p .is-released .result) (c .before .before .if1 .taken)))
 
 returns-2 : tie.Need-returns-2
 unfolding laidOn
 returns-2 c =
     let q = c .before .before in
     let p = q .before .before .before in
+    let lost = p .before .losses in
+    let roles = p .before .before .roles-of in
+    let index = p .before .before .before .before .index-of in
+    let a = p .before .before .before .before .before .args in
     rw (
-      ← p .before .index-of .ensures,
+      ← index .ensures,
+      ← released-by (a .new) (a .create) (a .t) (index .result) (a .connection) (lost .result) (lost .ensures) (roles .result) (roles .ensures),
       ← p .is-released .ensures,
       not-false (p .is-released .result) (q .before .before .if1 .left),
       ← q .only-connection .ensures,
@@ -52,8 +62,13 @@ unfolding laidOn
 returns-3 c =
     let q = c .before .before in
     let p = q .before .before .before in
+    let lost = p .before .losses in
+    let roles = p .before .before .roles-of in
+    let index = p .before .before .before .before .index-of in
+    let a = p .before .before .before .before .before .args in
     rw (
-      ← p .before .index-of .ensures,
+      ← index .ensures,
+      ← released-by (a .new) (a .create) (a .t) (index .result) (a .connection) (lost .result) (lost .ensures) (roles .result) (roles .ensures),
       ← p .is-released .ensures,
       not-false (p .is-released .result) (q .before .before .if1 .left),
       ← q .only-connection .ensures,
@@ -65,7 +80,8 @@ pub lay-on-spec : {M : Type 1} → statement M
 lay-on-spec =
     tie.close
     (tie.spec
-    (λ c κs. search needs) (λ c κs. search needs) (λ c κs. search needs) (λ c κs. search needs)
+    (λ c κs. search needs) (λ c κs. search needs) (λ c κs. search needs) (λ c κs. search needs) (λ c κs. search needs) (λ c κs. search needs)
+    (λ c κs. search needs)
     returns
     (λ c κs. search needs) (λ c κs. search needs) (λ c κs. search needs) (λ c κs. search needs)
     returns-2

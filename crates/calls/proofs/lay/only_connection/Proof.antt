@@ -12,34 +12,33 @@ use Rattle.calls.proofs.lay.only_connection.Statement.{statement}
 use Rattle.calls.proofs.lay.only_connection.Tie as tie
 
 abbrev Inv-loop : tie.InvT-loop
-Inv-loop t connection any₀ i₀ any i = (i ≤ 11) × (any ≡ anyBelow (otherAt t connection) i)
+Inv-loop connection t any₀ i₀ any i = (i ≤ 11) × (any ≡ anyBelow (otherAt t connection) i)
 
 abbrev μ-loop : tie.MeasureT-loop
-μ-loop t connection any₀ i₀ any i = 11 - i
+μ-loop connection t any₀ i₀ any i = 11 - i
 
 loop-holds : tie.Need-loop-holds Inv-loop μ-loop
-loop-holds c =
-    let a = c .args in
-    (omega arith, any-start (otherAt (a .t) (a .connection)))
+loop-holds c = (omega arith, any-start (otherAt (c .args .t1) (c .args .connection)))
 
 loop-again : tie.Need-loop-again Inv-loop μ-loop
+unfolding otherAt
 loop-again c =
-    let a = c .before .before .before .args in
-    let l = c .before .before .loop in
-    (omega arith, any-more (otherAt (a .t) (a .connection)) (l .i) (l .any) _ (cc) (l .inv .1))
+    let a = c .before .before .before .before .args in
+    let l = c .before .before .before .loop in
+    (omega arith, any-more (otherAt (a .t1) (a .connection)) (l .i) (l .any) _ (cc) (l .inv .1))
 
 returns : tie.Need-returns Inv-loop μ-loop
 unfolding onlyConnection
 returns c =
     let a = c .before .before .args in
     let l = c .before .loop in
-    ap not (done (anyBelow (otherAt (a .t) (a .connection))) (l .i) 11 _ (omega arith) (omega arith) (l .inv .1))
+    ap not (done (anyBelow (otherAt (a .t1) (a .connection))) (l .i) 11 _ (omega arith) (omega arith) (l .inv .1))
 
 pub only-connection-spec : {M : Type 1} → statement M
 only-connection-spec =
     tie.close
     (tie.spec
     Inv-loop μ-loop loop-holds
-    (λ c κs. search needs) (λ c. search needs) (λ c. search needs)
+    (λ c. search needs) (λ c. search needs) (λ c κs. search needs) (λ c. search needs) (λ c. search needs) (λ c. search needs) (λ c. search needs)
     loop-again
     returns)

@@ -1,6 +1,7 @@
 -- `calls::steps::deleted_row` meets its contract: the places before the index hold what is left, by what `kept_unless` gives.
 -- Assumes nothing.
 use mathlib.Core.Path.{_≡_}
+use mathlib.Core.Bool.{true}
 use Prim.Native.Nat.{_≤_, _-_}
 use native.Mathlib.Omega.{arith}
 use Rattle.laws.proofs.Index.{stored, stored-start, stored-more, stored-done}
@@ -12,10 +13,10 @@ use Rattle.calls.proofs.steps.deleted_row.Statement.{statement}
 use Rattle.calls.proofs.steps.deleted_row.Tie as tie
 
 abbrev Inv-loop : tie.InvT-loop
-Inv-loop named marks row s₀ j₀ s j = (j ≤ 16) × (s ≡ stored (deletedIn named marks row) row j)
+Inv-loop marks row s₀ j₀ s j = (j ≤ 16) × (s ≡ stored (deletedIn true marks row) row j)
 
 abbrev μ-loop : tie.MeasureT-loop
-μ-loop named marks row s₀ j₀ s j = 16 - j
+μ-loop marks row s₀ j₀ s j = 16 - j
 
 loop-holds : tie.Need-loop-holds Inv-loop μ-loop
 loop-holds c = (omega arith, stored-start _ _)
@@ -25,15 +26,15 @@ unfolding deletedIn
 loop-again c =
     let a = c .before .before .before .before .args in
     let l = c .before .before .before .loop in
-    (omega arith, stored-more (deletedIn (a .named) (a .t2) (a .t3)) (a .t3) (l .j) (l .s) _ (c .kept-unless .ensures) (l .inv .1))
+    (omega arith, stored-more (deletedIn true (a .t1) (a .t2)) (a .t2) (l .j) (l .s) _ (c .kept-unless .ensures) (l .inv .1))
 
 returns : tie.Need-returns Inv-loop μ-loop
 returns c =
     let start = c .before .before in
     let a = start .args in
     let l = c .before .loop in
-    let ok = row-in-range (a .t3) _ (start .good .1 .1 .0) in
-    stored-done (deletedIn (a .named) (a .t2) (a .t3)) (a .t3) emptyFilter (l .j) 16 _ (ok .count) (omega arith) (omega arith) (l .inv .1)
+    let ok = row-in-range (a .t2) _ (start .good .1 .0) in
+    stored-done (deletedIn true (a .t1) (a .t2)) (a .t2) emptyFilter (l .j) 16 _ (ok .count) (omega arith) (omega arith) (l .inv .1)
 
 pub deleted-row-spec : {M : Type 1} → statement M
 deleted-row-spec =

@@ -1,40 +1,57 @@
--- `calls::steps::deleted_table` meets its contract: the bearers before the index are those of the view, by what `deleted_bearer` gives.
+-- `calls::steps::deleted_table` meets its contract: the row at the index is what `deleted_row` gives, and the other bearers are as they stand.
 -- Assumes nothing.
-use Prim.Native.Nat.{_-_}
+use mathlib.Core.Path.{_≡_, refl, sym, _∙_, ap}
+use mathlib.Core.Bool.{Bool, true, false}
+use mathlib.Core.List.{List}
+use Prim.Native.Nat.{ℕ, _<_}
+use native.Mathlib.Omega.{arith}
+use lib.Dec.{eqb}
+use Rattle.laws.proofs.Says.{says-eq, says-no}
+use Rattle.table.specs.declared.bearer.Role.{Role}
+use Rattle.table.specs.declared.bearer.Bearer.{Bearer}
+use Rattle.table.specs.declared.bearer.Table.{Table}
+use Rattle.table.specs.Bearers.{bearerAt, bearerOf, roleAt, transactionAt}
+use Rattle.table.specs.Ranges.{TableInRange}
 use Rattle.table.proofs.Typed.{table-in-range}
-use Rattle.calls.specs.Steps.{deletedView}
-use Rattle.calls.proofs.Rows.{Stored, store-start, store-more, store-done}
+use Rattle.laws.specs.Index.{tab}
+use Rattle.laws.proofs.Index.{tab-is}
+use Rattle.laws.proofs.Typed.{each-at}
+use Rattle.filter.specs.declared.component.Filter.{Filter}
+use Rattle.table.specs.Bearers.{noBearer, emptyFilter}
+use Rattle.calls.specs.Steps.{deletedIn, deletedView}
+use Rattle.calls.proofs.Rows.{bearerWith, Beside, store-one, store-past}
 use borrow.Author.Needs.{needs}
 use Rattle.calls.proofs.steps.deleted_table.Statement.{statement}
 use Rattle.calls.proofs.steps.deleted_table.Tie as tie
 
-abbrev Inv-loop : tie.InvT-loop
-Inv-loop t k marks s₀ i₀ s i = Stored (deletedView t k marks) t s i
+module _ (t : Table) (k : ℕ) (marks : List Bool) where
+  here : (row : List Filter) → row ≡ tab (deletedIn true marks (bearerAt t k .row)) 16
+      → bearerWith (roleAt t k) (transactionAt t k) row ≡ bearerOf (deletedView t k marks) k
+  here row e = rw (says-eq k k .from refl) (ap (bearerWith (roleAt t k) (transactionAt t k)) e)
 
-abbrev μ-loop : tie.MeasureT-loop
-μ-loop t k marks s₀ i₀ s i = 11 - i
+  beside : TableInRange t → Beside (deletedView t k marks) t k
+  unfolding deletedIn
+  beside ok i m n =
+      ap (bearerWith (roleAt t i) (transactionAt t i))
+      (tab-is emptyFilter (deletedIn false marks (bearerAt t i .row)) (bearerAt t i .row) 16 (each-at (ok .bearers) noBearer i m .row .count) (λ j l. refl)
+      ∙ ap (λ (named : Bool). tab (deletedIn named marks (bearerAt t i .row)) 16) (sym (says-no (says-eq i k) n)))
 
-loop-holds : tie.Need-loop-holds Inv-loop μ-loop
-loop-holds c =
-    let a = c .args in
-    store-start (deletedView (a .t) (a .k) (a .marks)) (a .t)
-
-loop-again : tie.Need-loop-again Inv-loop μ-loop
-loop-again c =
-    let a = c .before .before .before .args in
-    let l = c .before .before .loop in
-    store-more (deletedView (a .t) (a .k) (a .marks)) (a .t) (l .s) (l .i) _ (c .before .loop-test .taken) (c .deleted-bearer .ensures) (l .inv)
-
-returns : tie.Need-returns Inv-loop μ-loop
+returns : tie.Need-returns
 returns c =
-    let start = c .before .before in
+    let start = c .before .before .before .before in
     let a = start .args in
-    let l = c .before .loop in
-    store-done (deletedView (a .t) (a .k) (a .marks)) (a .t) (l .s) (l .i) (table-in-range (a .t) _ (start .good .0)) (c .loop-test .left) (l .inv)
+    let ok = table-in-range (a .t1) _ (start .good .0) in
+    store-one (deletedView (a .t1) (a .k) (a .marks)) (a .t1) (a .k) _ ok (omega arith) (here (a .t1) (a .k) (a .marks) _ (c .deleted-row .ensures))
+    (beside (a .t1) (a .k) (a .marks) ok)
+
+returns-2 : tie.Need-returns-2
+returns-2 c =
+    let start = c .before in
+    let a = start .args in
+    let ok = table-in-range (a .t1) _ (start .good .0) in
+    store-past (deletedView (a .t1) (a .k) (a .marks)) (a .t1) (a .k) ok (omega arith) (beside (a .t1) (a .k) (a .marks) ok)
 
 pub deleted-table-spec : {M : Type 1} → statement M
 deleted-table-spec =
     tie.close
-    (tie.spec
-    Inv-loop μ-loop loop-holds (λ c κs. search needs) (λ c. search needs) (λ c. search needs) (λ c. search needs) (λ c. search needs)
-    loop-again returns)
+    (tie.spec (λ c. search needs) (λ c. search needs) (λ c κs. search needs) (λ c. search needs) (λ c. search needs) returns returns-2)

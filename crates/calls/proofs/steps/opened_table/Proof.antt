@@ -1,40 +1,44 @@
--- `calls::steps::opened_table` meets its contract: the bearers before the index are those of the view, by what `opened_bearer` gives.
+-- `calls::steps::opened_table` meets its contract: the bearer at the index is the view's, and the others are as they stand.
 -- Assumes nothing.
-use Prim.Native.Nat.{_-_}
+use mathlib.Core.Path.{_≡_, refl, sym, _∙_, ap}
+use mathlib.Core.Bool.{Bool, true, false}
+use mathlib.Core.List.{List}
+use Prim.Native.Nat.{ℕ, _<_}
+use native.Mathlib.Omega.{arith}
+use lib.Dec.{eqb}
+use Rattle.laws.proofs.Says.{says-eq, says-no}
+use Rattle.table.specs.declared.bearer.Role.{Role}
+use Rattle.table.specs.declared.bearer.Bearer.{Bearer}
+use Rattle.table.specs.declared.bearer.Table.{Table}
+use Rattle.table.specs.Bearers.{bearerAt, bearerOf, roleAt, transactionAt}
+use Rattle.table.specs.Ranges.{TableInRange}
 use Rattle.table.proofs.Typed.{table-in-range}
 use Rattle.calls.specs.Steps.{openedView}
-use Rattle.calls.proofs.Rows.{Stored, store-start, store-more, store-done}
+use Rattle.calls.proofs.Rows.{bearerWith, row-kept-at, Beside, store-one, store-past}
 use borrow.Author.Needs.{needs}
 use Rattle.calls.proofs.steps.opened_table.Statement.{statement}
 use Rattle.calls.proofs.steps.opened_table.Tie as tie
 
-abbrev Inv-loop : tie.InvT-loop
-Inv-loop t k role s₀ i₀ s i = Stored (openedView t k role) t s i
+module _ (t : Table) (k : ℕ) (role : Role) (ok : TableInRange t) where
+  here : k < 11 → bearerWith role (transactionAt t k) (bearerAt t k .row) ≡ bearerOf (openedView t k role) k
+  here l = rw (says-eq k k .from refl) (row-kept-at t k ok l _ _)
 
-abbrev μ-loop : tie.MeasureT-loop
-μ-loop t k role s₀ i₀ s i = 11 - i
+  beside : Beside (openedView t k role) t k
+  beside i m n = rw (says-no (says-eq i k) n) (row-kept-at t i ok m _ _)
 
-loop-holds : tie.Need-loop-holds Inv-loop μ-loop
-loop-holds c =
-    let a = c .args in
-    store-start (openedView (a .t) (a .k) (a .role)) (a .t)
-
-loop-again : tie.Need-loop-again Inv-loop μ-loop
-loop-again c =
-    let a = c .before .before .before .args in
-    let l = c .before .before .loop in
-    store-more (openedView (a .t) (a .k) (a .role)) (a .t) (l .s) (l .i) _ (c .before .loop-test .taken) (c .opened-bearer .ensures) (l .inv)
-
-returns : tie.Need-returns Inv-loop μ-loop
+returns : tie.Need-returns
 returns c =
-    let start = c .before .before in
+    let start = c .before .before .before in
     let a = start .args in
-    let l = c .before .loop in
-    store-done (openedView (a .t) (a .k) (a .role)) (a .t) (l .s) (l .i) (table-in-range (a .t) _ (start .good .0)) (c .loop-test .left) (l .inv)
+    let ok = table-in-range (a .t1) _ (start .good .0) in
+    store-one (openedView (a .t1) (a .k) (a .role)) (a .t1) (a .k) _ ok (omega arith) (here (a .t1) (a .k) (a .role) ok (omega arith)) (beside (a .t1) (a .k) (a .role) ok)
+
+returns-2 : tie.Need-returns-2
+returns-2 c =
+    let start = c .before in
+    let a = start .args in
+    let ok = table-in-range (a .t1) _ (start .good .0) in
+    store-past (openedView (a .t1) (a .k) (a .role)) (a .t1) (a .k) ok (omega arith) (beside (a .t1) (a .k) (a .role) ok)
 
 pub opened-table-spec : {M : Type 1} → statement M
-opened-table-spec =
-    tie.close
-    (tie.spec
-    Inv-loop μ-loop loop-holds (λ c κs. search needs) (λ c. search needs) (λ c. search needs) (λ c. search needs) (λ c. search needs)
-    loop-again returns)
+opened-table-spec = tie.close (tie.spec (λ c. search needs) (λ c. search needs) (λ c. search needs) (λ c. search needs) returns returns-2)

@@ -11,25 +11,28 @@ use Rattle.calls.proofs.steps.opens_any.Statement.{statement}
 use Rattle.calls.proofs.steps.opens_any.Tie as tie
 
 abbrev Inv-loop : tie.InvT-loop
-Inv-loop t x any₀ i₀ any i = (i ≤ 11) × (any ≡ anyBelow (opensAt t x) i)
+Inv-loop x t any₀ i₀ any i = (i ≤ 11) × (any ≡ anyBelow (opensAt t x) i)
 
 abbrev μ-loop : tie.MeasureT-loop
-μ-loop t x any₀ i₀ any i = 11 - i
+μ-loop x t any₀ i₀ any i = 11 - i
 
 loop-holds : tie.Need-loop-holds Inv-loop μ-loop
-loop-holds c = (omega arith, any-start (opensAt (c .args .t) (c .args .x)))
+loop-holds c = (omega arith, any-start (opensAt (c .args .t1) (c .args .x)))
 
 loop-again : tie.Need-loop-again Inv-loop μ-loop
+unfolding opensAt
 loop-again c =
-    let a = c .before .before .before .args in
-    let l = c .before .before .loop in
-    (omega arith, any-more (opensAt (a .t) (a .x)) (l .i) (l .any) _ (cc) (l .inv .1))
+    let a = c .before .before .before .before .args in
+    let l = c .before .before .before .loop in
+    (omega arith, any-more (opensAt (a .t1) (a .x)) (l .i) (l .any) _ (cc) (l .inv .1))
 
 returns : tie.Need-returns Inv-loop μ-loop
 returns c =
     let a = c .before .before .args in
     let l = c .before .loop in
-    done (anyBelow (opensAt (a .t) (a .x))) (l .i) 11 _ (omega arith) (omega arith) (l .inv .1)
+    done (anyBelow (opensAt (a .t1) (a .x))) (l .i) 11 _ (omega arith) (omega arith) (l .inv .1)
 
 pub opens-any-spec : {M : Type 1} → statement M
-opens-any-spec = tie.close (tie.spec Inv-loop μ-loop loop-holds (λ c κs. search needs) (λ c. search needs) (λ c. search needs) loop-again returns)
+opens-any-spec =
+    tie.close
+    (tie.spec Inv-loop μ-loop loop-holds (λ c. search needs) (λ c. search needs) (λ c. search needs) (λ c. search needs) loop-again returns)

@@ -1,45 +1,47 @@
 -- `calls::steps::owner_of` meets its contract: the bearer so far is the one that the transaction is open on among the indices passed.
 -- Assumes nothing.
-use mathlib.Core.Path.{_≡_, refl, sym, _∙_}
+use mathlib.Core.Path.{_≡_, refl, _∙_}
 use mathlib.Core.Logic.{⊎-elim}
 use Prim.Native.Nat.{_≤_, _-_}
 use native.Mathlib.Omega.{arith}
+use borrow.Author.Tests.{eq-eqb, ne-eqb}
 use Rattle.laws.proofs.Index.{next, done}
-use Rattle.calls.specs.Steps.{ownerBelow}
+use Rattle.table.specs.Bearers.{transactionAt}
+use Rattle.calls.specs.Steps.{opensAt, ownerBelow}
 use borrow.Author.Needs.{needs}
 use Rattle.calls.proofs.steps.owner_of.Statement.{statement}
 use Rattle.calls.proofs.steps.owner_of.Tie as tie
 
 abbrev Inv-loop : tie.InvT-loop
-Inv-loop t x owner₀ i₀ owner i = (i ≤ 11) × (owner ≡ ownerBelow t x i)
+Inv-loop x t owner₀ i₀ owner i = (i ≤ 11) × (owner ≡ ownerBelow t x i)
 
 abbrev μ-loop : tie.MeasureT-loop
-μ-loop t x owner₀ i₀ owner i = 11 - i
+μ-loop x t owner₀ i₀ owner i = 11 - i
 
 loop-holds : tie.Need-loop-holds Inv-loop μ-loop
 unfolding ownerBelow
 loop-holds c = (omega arith, refl)
 
 loop-again : tie.Need-loop-again Inv-loop μ-loop
-unfolding ownerBelow
+unfolding ownerBelow opensAt
 loop-again c =
-    let a = c .before .before .before .before .args in
-    let l = c .before .before .before .loop in
-    let e = sym (c .before .opens-at .ensures) in (
+    let a = c .before .before .before .before .before .args in
+    let l = c .before .before .before .before .loop in (
       omega arith,
-      next (ownerBelow (a .t) (a .x)) (l .i) (c .if1 .owner)
-          (⊎-elim (λ w. rw (e ∙ w .0 .taken) (w .1)) (λ w. rw (e ∙ w .0 .left) (w .1 ∙ l .inv .1)) (c .if1 .came)),
+      next (ownerBelow (a .t1) (a .x)) (l .i) (c .if1 .owner)
+          (⊎-elim (λ w. rw (eq-eqb (transactionAt (a .t1) (l .i)) (a .x) (w .0 .taken)) (w .1))
+          (λ w. rw (ne-eqb (transactionAt (a .t1) (l .i)) (a .x) (w .0 .left)) (w .1 ∙ l .inv .1)) (c .if1 .came)),
     )
 
 returns : tie.Need-returns Inv-loop μ-loop
 returns c =
     let a = c .before .before .args in
     let l = c .before .loop in
-    done (ownerBelow (a .t) (a .x)) (l .i) 11 _ (omega arith) (omega arith) (l .inv .1)
+    done (ownerBelow (a .t1) (a .x)) (l .i) 11 _ (omega arith) (omega arith) (l .inv .1)
 
 pub owner-of-spec : {M : Type 1} → statement M
 owner-of-spec =
     tie.close
     (tie.spec
-    Inv-loop μ-loop loop-holds (λ c κs. search needs) (λ c. search needs) (λ c. search needs) (λ c. search needs) (λ c. search needs)
+    Inv-loop μ-loop loop-holds (λ c. search needs) (λ c. search needs) (λ c. search needs) (λ c. search needs) (λ c. search needs) (λ c. search needs)
     loop-again returns)

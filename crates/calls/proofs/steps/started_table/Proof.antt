@@ -1,40 +1,44 @@
--- `calls::steps::started_table` meets its contract: the bearers before the index are those of the view, by what `started_bearer` gives.
+-- `calls::steps::started_table` meets its contract: the bearer at the index is the view's, and the others are as they stand.
 -- Assumes nothing.
-use Prim.Native.Nat.{_-_}
+use mathlib.Core.Path.{_≡_, refl, sym, _∙_, ap}
+use mathlib.Core.Bool.{Bool, true, false}
+use mathlib.Core.List.{List}
+use Prim.Native.Nat.{ℕ, _<_}
+use native.Mathlib.Omega.{arith}
+use lib.Dec.{eqb}
+use Rattle.laws.proofs.Says.{says-eq, says-no}
+use Rattle.table.specs.declared.bearer.Role.{Role}
+use Rattle.table.specs.declared.bearer.Bearer.{Bearer}
+use Rattle.table.specs.declared.bearer.Table.{Table}
+use Rattle.table.specs.Bearers.{bearerAt, bearerOf, roleAt, transactionAt}
+use Rattle.table.specs.Ranges.{TableInRange}
 use Rattle.table.proofs.Typed.{table-in-range}
 use Rattle.calls.specs.Steps.{startedView}
-use Rattle.calls.proofs.Rows.{Stored, store-start, store-more, store-done}
+use Rattle.calls.proofs.Rows.{bearerWith, row-kept-at, Beside, store-one, store-past}
 use borrow.Author.Needs.{needs}
 use Rattle.calls.proofs.steps.started_table.Statement.{statement}
 use Rattle.calls.proofs.steps.started_table.Tie as tie
 
-abbrev Inv-loop : tie.InvT-loop
-Inv-loop t k x s₀ i₀ s i = Stored (startedView t k x) t s i
+module _ (t : Table) (k x : ℕ) (ok : TableInRange t) where
+  here : k < 11 → bearerWith (roleAt t k) x (bearerAt t k .row) ≡ bearerOf (startedView t k x) k
+  here l = rw (says-eq k k .from refl) (row-kept-at t k ok l _ _)
 
-abbrev μ-loop : tie.MeasureT-loop
-μ-loop t k x s₀ i₀ s i = 11 - i
+  beside : Beside (startedView t k x) t k
+  beside i m n = rw (says-no (says-eq i k) n) (row-kept-at t i ok m _ _)
 
-loop-holds : tie.Need-loop-holds Inv-loop μ-loop
-loop-holds c =
-    let a = c .args in
-    store-start (startedView (a .t) (a .k) (a .x)) (a .t)
-
-loop-again : tie.Need-loop-again Inv-loop μ-loop
-loop-again c =
-    let a = c .before .before .before .args in
-    let l = c .before .before .loop in
-    store-more (startedView (a .t) (a .k) (a .x)) (a .t) (l .s) (l .i) _ (c .before .loop-test .taken) (c .started-bearer .ensures) (l .inv)
-
-returns : tie.Need-returns Inv-loop μ-loop
+returns : tie.Need-returns
 returns c =
-    let start = c .before .before in
+    let start = c .before .before .before in
     let a = start .args in
-    let l = c .before .loop in
-    store-done (startedView (a .t) (a .k) (a .x)) (a .t) (l .s) (l .i) (table-in-range (a .t) _ (start .good .0)) (c .loop-test .left) (l .inv)
+    let ok = table-in-range (a .t1) _ (start .good .0) in
+    store-one (startedView (a .t1) (a .k) (a .x)) (a .t1) (a .k) _ ok (omega arith) (here (a .t1) (a .k) (a .x) ok (omega arith)) (beside (a .t1) (a .k) (a .x) ok)
+
+returns-2 : tie.Need-returns-2
+returns-2 c =
+    let start = c .before in
+    let a = start .args in
+    let ok = table-in-range (a .t1) _ (start .good .0) in
+    store-past (startedView (a .t1) (a .k) (a .x)) (a .t1) (a .k) ok (omega arith) (beside (a .t1) (a .k) (a .x) ok)
 
 pub started-table-spec : {M : Type 1} → statement M
-started-table-spec =
-    tie.close
-    (tie.spec
-    Inv-loop μ-loop loop-holds (λ c κs. search needs) (λ c. search needs) (λ c. search needs) (λ c. search needs) (λ c. search needs)
-    loop-again returns)
+started-table-spec = tie.close (tie.spec (λ c. search needs) (λ c. search needs) (λ c. search needs) (λ c. search needs) returns returns-2)

@@ -23,6 +23,7 @@ loop-holds c =
     store-start (cutView (a .t1) (ofConnection (a .t1) (a .connection))) (a .t1)
 
 loop-again : tie.Need-loop-again Inv-loop μ-loop
+unfolding ofConnection
 loop-again c =
     let a = c .before .before .before .before .before .args in
     let l = c .before .before .before .before .loop in

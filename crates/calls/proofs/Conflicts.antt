@@ -1,0 +1,195 @@
+-- Conflicts as the code finds them: `took` is whether a new filter has the old one's precedence.
+use mathlib.Core.Path.{_≡_, refl, sym, _∙_, ap}
+use mathlib.Core.Bool.{Bool, true, false, not, _&&_, _||_}
+use mathlib.Core.List.{List}
+use Prim.Native.Nat.{ℕ, zero, suc, _+_, _<_}
+use native.Mathlib.Nat.{not-suc-le-zero}
+use native.Mathlib.Omega.{arith}
+use lib.Dec.{eqb}
+use lib.ListN.{length, getD, set, replicate, length-set, length-replicate, getD-replicate}
+use lib.Seq.{getD-set-same, getD-set-other}
+use mathlib.Core.Logic.{⊎-elim}
+use Rattle.laws.specs.Says.{pick}
+use Rattle.laws.specs.Index.{anyBelow, picks, tab}
+use Rattle.laws.proofs.Index.{next, tab-at, tab-length, tab-is}
+use Rattle.laws.proofs.Says.{which, never, says-eq, says-ne, last}
+use Rattle.laws.proofs.Tests.{neither}
+use Rattle.filter.specs.declared.component.Filter.{Filter}
+use Rattle.filter.specs.Coding.{held}
+use Rattle.table.specs.declared.bearer.Role.{Role}
+use Rattle.table.specs.declared.bearer.Role.the-variants.{Idle}
+use Rattle.table.specs.declared.bearer.Table.{Table}
+use Rattle.table.specs.Bearers.{bearerCount, placeCount, emptyFilter, inRow, roleAt, bearerAt, identityOf, isDefault, isDedicated}
+use Rattle.calls.specs.Steps.{ofConnection}
+use Rattle.calls.specs.Lay.{old, takenBy, takes, conflict, placed, conflictIn, loses, placedIn, losesAt, frees, follows, released, followers}
+
+-- ---- tests by index
+any-none : (p : ℕ → Bool) (n : ℕ) → ((i : ℕ) → p i ≡ false) → anyBelow p n ≡ false
+unfolding anyBelow
+any-none p zero h = refl
+any-none p (suc n) h = rw (any-none p n h) (h n)
+
+any-same : (p q : ℕ → Bool) (n : ℕ) → ((i : ℕ) → i < n → p i ≡ q i) → anyBelow p n ≡ anyBelow q n
+unfolding anyBelow
+any-same p q zero h = refl
+any-same p q (suc n) h = rw (any-same p q n (λ i l. h i (omega arith)), h n (omega arith))
+
+picks-same : (p q : ℕ → Bool) (g : ℕ → ℕ) (n : ℕ) → ((i : ℕ) → i < n → p i ≡ q i) → picks p g n ≡ picks q g n
+unfolding picks
+picks-same p q g zero h = refl
+picks-same p q g (suc n) h = rw (picks-same p q g n (λ i l. h i (omega arith)), h n (omega arith))
+
+any-no : (p : ℕ → Bool) (n i : ℕ) → i < n → anyBelow p n ≡ false → p i ≡ false
+unfolding anyBelow
+any-no p zero i l e = absurd (not-suc-le-zero l)
+any-no p (suc n) i l e =
+    let both = neither (anyBelow p n) (p n) e in
+    ⊎-elim (λ m. any-no p n i m (both .0)) (λ q. ap p q ∙ both .1) (last l)
+
+-- ---- the precedences of the new filters
+abbrev pub takenBelow : List Filter → ℕ → ℕ → Bool
+takenBelow new j p = anyBelow (takenBy new p) j
+
+pub taken-start : (new : List Filter) → replicate 256 false ≡ tab (takenBelow new 0) 256
+unfolding anyBelow
+taken-start new = tab-is false (takenBelow new 0) (replicate 256 false) 256 (length-replicate 256 false) (λ i l. getD-replicate 256 i false false l)
+
+-- the filter at j marks its precedence q
+pub taken-more : (new : List Filter) (j q : ℕ) (ms : List Bool) (h : Bool) → q < 256 → q ≡ inRow new j .precedence → h ≡ held (inRow new j)
+    → ms ≡ tab (takenBelow new j) 256 → set ms q (getD ms q false || h) ≡ tab (takenBelow new (j + 1)) 256
+unfolding anyBelow takenBy
+taken-more new j q ms h l eq eh e =
+    next (λ (j : ℕ). tab (takenBelow new j) 256) j (set ms q (getD ms q false || h))
+    (tab-is false (takenBelow new (suc j)) (set ms q (getD ms q false || h)) 256 (length-set ms q _ ∙ long) at)
+  where
+    long : length ms ≡ 256
+    long = ap length e ∙ tab-length (takenBelow new j) 256
+
+    was : (p : ℕ) → p < 256 → getD ms p false ≡ takenBelow new j p
+    was p m = ap (λ (ms : List Bool). getD ms p false) e ∙ tab-at (takenBelow new j) 256 p false m
+
+    and-true : (b : Bool) → b ≡ b && true
+    and-true true = refl
+    and-true false = refl
+
+    and-false : (b : Bool) → false ≡ b && false
+    and-false true = refl
+    and-false false = refl
+
+    or-false : (b : Bool) → b ≡ b || false
+    or-false true = refl
+    or-false false = refl
+
+    at : (p : ℕ) → p < 256 → getD (set ms q (getD ms q false || h)) p false ≡ takenBelow new j p || (held (inRow new j) && eqb (inRow new j .precedence) p)
+    at p m =
+        ⊎-elim
+        (λ w. let same : q ≡ p = says-eq q p .to w in
+        ap (λ (k : ℕ). getD (set ms q (getD ms q false || h)) k false) (sym same)
+        ∙ getD-set-same ms q _ false (omega (arith, long))
+        ∙ ap (λ (b : Bool). b || h) (ap (λ (k : ℕ). getD ms k false) same ∙ was p m)
+        ∙ ap (λ (b : Bool). takenBelow new j p || b) (eh ∙ and-true (held (inRow new j)) ∙ ap (λ (b : Bool). held (inRow new j) && b) (sym w ∙ ap (λ (k : ℕ). eqb k p) eq)))
+        (λ w. let other : p ≡ q → ⊥ = λ z. says-ne (says-eq q p) w (sym z) in
+        getD-set-other ms q p _ false other ∙ was p m ∙ or-false (takenBelow new j p)
+        ∙ ap (λ (b : Bool). takenBelow new j p || b) (and-false (held (inRow new j)) ∙ ap (λ (b : Bool). held (inRow new j) && b) (sym w ∙ ap (λ (k : ℕ). eqb k p) eq)))
+        (which (eqb q p))
+
+pub taken-done : (new : List Filter) → tab (takenBelow new placeCount) 256 ≡ tab (takes new) 256
+unfolding takes
+taken-done new = refl
+
+-- what is read there
+pub took-is : (new : List Filter) (ms : List Bool) (p : ℕ) → p < 256 → ms ≡ tab (takes new) 256 → getD ms p false ≡ takes new p
+took-is new ms p l e = ap (λ (ms : List Bool). getD ms p false) e ∙ tab-at (takes new) 256 p false l
+
+-- ---- one place
+pub conflict-yes : (mine h took : Bool) → mine && took ≡ true → h ≡ mine && h && took
+conflict-yes true true took e = sym e
+conflict-yes true false took e = refl
+conflict-yes false h took e = never e refl
+
+pub conflict-no : (mine h took : Bool) → mine && took ≡ false → false ≡ mine && h && took
+conflict-no true true took e = sym e
+conflict-no true false took e = refl
+conflict-no false h took e = refl
+
+module _ (new : List Filter) (create named mine : Bool) (n f : Filter) (took hit : Bool) (et : took ≡ takes new (f .precedence)) (eh : hit ≡ mine && held f && took) where
+  hit-is : hit ≡ conflict new mine f
+  unfolding conflict
+  hit-is = eh ∙ ap (λ (b : Bool). mine && held f && b) et
+
+  no-conflict : (mine : Bool) → conflict new mine emptyFilter ≡ false
+  unfolding conflict held
+  no-conflict true = refl
+  no-conflict false = refl
+
+  pub conflict-old : (rem : Bool) → rem ≡ not (named && (create || held n)) → rem && hit ≡ conflict new mine (old create named n f)
+  unfolding old
+  conflict-old rem er = ap (λ (b : Bool). b && hit) er ∙ ap (λ (b : Bool). not (named && (create || held n)) && b) hit-is ∙ go (named && (create || held n))
+    where
+      go : (b : Bool) → not b && conflict new mine f ≡ conflict new mine (pick b emptyFilter f)
+      go true = sym (no-conflict mine)
+      go false = refl
+
+  pub placed-by : pick (named && held n) n (pick ((named && create) || hit) emptyFilter f) ≡ placed new create named mine n f
+  unfolding placed old
+  placed-by =
+      ap (λ (b : Bool). pick (named && held n) n (pick ((named && create) || b) emptyFilter f)) hit-is ∙ go named (held n) create
+    where
+      same : (b : Bool) → emptyFilter ≡ pick b emptyFilter emptyFilter
+      same true = refl
+      same false = refl
+
+      go : (named h create : Bool) → pick (named && h) n (pick ((named && create) || conflict new mine f) emptyFilter f)
+          ≡ pick (named && h) n (pick (conflict new mine (pick (named && (create || h)) emptyFilter f)) emptyFilter (pick (named && (create || h)) emptyFilter f))
+      go false h create = refl
+      go true true create = refl
+      go true false true = same (conflict new mine emptyFilter)
+      go true false false = refl
+
+-- ---- the roles, read once
+pub role-at : (t : Table) (roles : List Role) → roles ≡ tab (roleAt t) bearerCount → (i : ℕ) → i < bearerCount → getD roles i Idle ≡ roleAt t i
+role-at t roles e i l = ap (λ (roles : List Role). getD roles i Idle) e ∙ tab-at (roleAt t) bearerCount i Idle l
+
+-- ---- one row
+module _ (new : List Filter) (create : Bool) where
+  loses-none : (named : Bool) (row : List Filter) → loses new create named false row ≡ false
+  unfolding loses conflictIn conflict
+  loses-none named row = any-none (conflictIn new create named false row) placeCount (λ j. refl)
+
+  -- a row that is not the named bearer's and loses nothing stays
+  pub row-stands : (mine : Bool) (row : List Filter) → length row ≡ placeCount → loses new create false mine row ≡ false
+      → row ≡ tab (placedIn new create false mine row) placeCount
+  unfolding loses conflictIn placedIn placed old
+  row-stands mine row long e =
+      tab-is emptyFilter (placedIn new create false mine row) row placeCount long
+      (λ j l. let no : conflict new mine (inRow row j) ≡ false = any-no (conflictIn new create false mine row) placeCount j l e in
+      ap (λ (b : Bool). pick b emptyFilter (inRow row j)) (sym no))
+
+  -- ---- the bearers
+  module _ (t : Table) (k connection : ℕ) where
+    pub mine-loses : (i : ℕ) (r : Bool) → ofConnection t connection i ≡ true → r ≡ loses new create (eqb i k) true (bearerAt t i .row)
+        → r ≡ losesAt new create t k connection i
+    unfolding losesAt
+    mine-loses i r m e = e ∙ ap (λ (mine : Bool). loses new create (eqb i k) mine (bearerAt t i .row)) (sym m)
+
+    pub other-loses : (i : ℕ) → ofConnection t connection i ≡ false → false ≡ losesAt new create t k connection i
+    unfolding losesAt
+    other-loses i m =
+        sym (loses-none (eqb i k) (bearerAt t i .row)) ∙ ap (λ (mine : Bool). loses new create (eqb i k) mine (bearerAt t i .row)) (sym m)
+
+    module _ (lost : List Bool) (e : lost ≡ tab (losesAt new create t k connection) bearerCount) where
+      pub lost-at : (i : ℕ) → i < bearerCount → getD lost i false ≡ losesAt new create t k connection i
+      lost-at i l = ap (λ (lost : List Bool). getD lost i false) e ∙ tab-at (losesAt new create t k connection) bearerCount i false l
+
+      module _ (roles : List Role) (er : roles ≡ tab (roleAt t) bearerCount) where
+        pub released-by : anyBelow (λ i. isDefault (getD roles i Idle) && getD lost i false) bearerCount ≡ released new create t k connection
+        unfolding released frees
+        released-by =
+            any-same (λ i. isDefault (getD roles i Idle) && getD lost i false) (frees new create t k connection) bearerCount
+            (λ i l. rw (role-at t roles er i l, lost-at i l))
+
+        pub followers-by : picks (λ i. isDedicated (getD roles i Idle) && getD lost i false) identityOf bearerCount ≡ followers new create t k connection
+        unfolding followers follows
+        followers-by =
+            picks-same (λ i. isDedicated (getD roles i Idle) && getD lost i false) (follows new create t k connection) identityOf bearerCount
+            (λ i l. rw (role-at t roles er i l, lost-at i l))
