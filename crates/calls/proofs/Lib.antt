@@ -8,3 +8,4 @@ pub mod Theorems
 pub mod Followers
 pub mod Conflicts
 pub mod Answers
+pub mod Thin

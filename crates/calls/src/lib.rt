@@ -1,6 +1,7 @@
 // The six calls on a table of bearers: default and dedicated activation, modify, deactivate, resource modification reject, start.
 pub mod activate;
 pub mod deactivate;
+pub mod in_place;
 mod lay;
 pub mod modify;
 pub mod reply;
