@@ -1,0 +1,102 @@
+-- DEMAND 3. After any sequence of calls from the empty table no two filters of a connection share a precedence, and the ordered list's first fit is the
+-- route of the order-free rule. A bearer that a modify doesn't name changes only in the three ways listed.
+-- Assumes nothing.
+use mathlib.Core.Path.{_≡_, refl}
+use mathlib.Core.Bool.{true}
+use mathlib.Core.Logic.{_↔_}
+use mathlib.Core.List.{List, [], _∷_}
+use Prim.Native.Nat.{ℕ, zero, suc, _<_}
+use native.Mathlib.Omega.{arith}
+use lib.ListN.{length, replicate}
+use Rattle.laws.specs.Index.{allBelow}
+use Rattle.laws.specs.Lists.{All, Each}
+use Rattle.filter.specs.declared.packet.Header.{Header}
+use Rattle.filter.specs.Ranges.{FilterInRange}
+use Rattle.filter.specs.Coding.{held, emptyPlace}
+use Rattle.filter.specs.Fit.{validHeader}
+use Rattle.element.specs.Read.{readElement}
+use Rattle.table.specs.declared.bearer.Table.{Table}
+use Rattle.table.specs.Bearers.{bearerCount, placeCount, identityOf, emptyFilter, emptyTable, filterAt, isDefault, roleOf, connectionAt}
+use Rattle.table.specs.Ranges.{BearerInRange, TableInRange}
+use Rattle.table.specs.WellFormed.{filterFine, bearerFine, transactionsApart, transactionFrom, distinctTransactions, distinctAt, distinctPrecedences, wellFormed, Held, WellFormed}
+use Rattle.table.proofs.Meaning.{well-says}
+use Rattle.calls.specs.Modify.{modifyOf}
+use Rattle.calls.specs.Changes.{Kept, Unnamed}
+use Rattle.calls.proofs.Whole.{activate-default-kept, activate-dedicated-kept, modify-kept, deactivate-kept, reject-kept, start-kept}
+use Rattle.calls.proofs.Laying.{modify-unnamed}
+use Rattle.route.specs.declared.answer.Route.{Route}
+use Rattle.route.specs.declared.answer.Answer.the-variants.{Routed}
+use Rattle.route.specs.Lists.{listOf}
+use Rattle.route.specs.Routes.{routeOn, routeOf}
+use Rattle.route.specs.Rule.{Right}
+use Rattle.route.proofs.Theorems.{route-right, right-one, route-says}
+use Rattle.promises.specs.Calls.{Call, activateDefault, activateDedicated, modify, deactivate, reject, start, Sent, outcomeOf, run, reached}
+
+-- ---- "After any sequence of calls from the empty table", refused ones among them, the table is well formed
+all-alike : {A : Type 0} (P : A → Type 0) (n : ℕ) (a : A) → P a → All P (replicate n a)
+all-alike P zero a p = tt
+all-alike P (suc n) a p = (p, all-alike P n a p)
+
+each-alike : {A : Type 0} (P : A → Type 0) (n : ℕ) (a : A) → length (replicate n a) ≡ n → P a → Each P n (replicate n a)
+each-alike P n a e p = record { count = e; all = all-alike P n a p }
+
+empty-in-range : TableInRange emptyTable
+unfolding emptyTable
+empty-in-range =
+    record {
+      bearers = each-alike BearerInRange bearerCount _ refl
+          (record { role = tt; transaction = omega arith; row = each-alike FilterInRange placeCount emptyFilter refl nothing });
+    }
+  where
+    nothing : FilterInRange emptyFilter
+    nothing =
+        record { precedence = omega arith; direction = omega arith; address = tt; protocol = tt; local = tt; remote = tt; index = tt; class = tt; label = tt }
+
+empty-well : wellFormed emptyTable ≡ true
+unfolding emptyTable allBelow held emptyPlace filterFine bearerFine transactionsApart transactionFrom distinctTransactions distinctAt distinctPrecedences wellFormed
+empty-well = refl
+
+call-kept : (t : Table) → Kept t → (c : Call) → Sent c → Kept (outcomeOf t c .table)
+call-kept t k (activateDefault bearer) s = activate-default-kept t k bearer
+call-kept t k (activateDedicated bearer link transaction value) s = activate-dedicated-kept t k bearer link transaction value s
+call-kept t k (modify bearer transaction value) s = modify-kept t k bearer transaction value s
+call-kept t k (deactivate bearer transaction) s = deactivate-kept t k bearer transaction
+call-kept t k (reject transaction cause) s = reject-kept t k transaction cause
+call-kept t k (start transaction bearer) s = start-kept t k transaction bearer s
+
+run-kept : (t : Table) → Kept t → (cs : List Call) → All Sent cs → Kept (run t cs)
+unfolding run
+run-kept t k [] s = k
+run-kept t k (c ∷ cs) s = run-kept (outcomeOf t c .table) (call-kept t k c (s .0)) cs (s .1)
+
+pub reached-kept : (cs : List Call) → All Sent cs → Kept (reached cs)
+reached-kept = run-kept emptyTable (record { inRange = empty-in-range; well = well-says emptyTable empty-in-range .to empty-well })
+
+module _ (cs : List Call) (sent : All Sent cs) where
+  -- .. by the test too: no call of the sequence is answered with 1
+  pub reached-well : wellFormed (reached cs) ≡ true
+  reached-well = let k = reached-kept cs sent in well-says (reached cs) (k .inRange) .from (k .well)
+
+  -- "no two filters of a connection share a precedence"
+  pub distinct-precedences : let t = reached cs in
+      (i k j l : ℕ) → i < bearerCount → k < bearerCount → j < placeCount → l < placeCount → connectionAt t i ≡ connectionAt t k
+      → Held (filterAt t i j) → Held (filterAt t k l) → filterAt t i j .precedence ≡ filterAt t k l .precedence → (i ≡ k) × (j ≡ l)
+  distinct-precedences = reached-kept cs sent .well .distinct
+
+  -- "the ordered list's first fit is the route of the order-free rule": it is a right route, and there is no other ..
+  pub first-fit-right : (default : ℕ) (h : Header) → let t = reached cs in Right t default h (routeOn t default h (listOf t default))
+  first-fit-right default h = let k = reached-kept cs sent in route-right (reached cs) (k .inRange) (k .well) default h
+
+  pub one-route : (default : ℕ) (h : Header) (r s : Route) → Right (reached cs) default h r → Right (reached cs) default h s → r ≡ s
+  one-route default h = right-one (reached cs) (reached-kept cs sent .well) default h
+
+  -- .. and for an active default and a valid header it is what the call gives
+  pub route-by-rule : (default : ℕ) (h : Header) → isDefault (roleOf (reached cs) default) ≡ true → validHeader h ≡ true
+      → (r : Route) → (routeOf (reached cs) default h ≡ Routed r) ↔ Right (reached cs) default h r
+  route-by-rule default h d v = route-says (reached cs) default h (reached-kept cs sent .inRange) reached-well d v
+
+  -- "A bearer that a modify doesn't name changes only in the three ways listed": it stays, its transaction perhaps closed; it loses exactly the filters
+  -- whose precedence a new filter takes; or it goes with its released connection
+  pub unnamed-bearer : (bearer transaction : ℕ) (value : List ℕ) (i : ℕ) → i < bearerCount → (identityOf i ≡ bearer → ⊥)
+      → Unnamed (reached cs) bearer transaction (readElement value .filters) (modifyOf (reached cs) bearer transaction value) i
+  unnamed-bearer bearer transaction value i l = modify-unnamed (reached cs) (reached-kept cs sent .inRange) bearer transaction value i l

@@ -1,0 +1,70 @@
+-- The six calls on a table, as values, and a sequence of them.
+use Prim.Native.Nat.{ℕ, _^_, _<_}
+use mathlib.Core.Bool.{not, _&&_}
+use mathlib.Core.List.{List, [], _∷_}
+use Rattle.laws.specs.Says.{pick}
+use Rattle.laws.specs.Lists.{All}
+use Rattle.element.specs.Meaning.{Octet}
+use Rattle.table.specs.declared.bearer.Table.{Table}
+use Rattle.table.specs.Bearers.{emptyTable}
+use Rattle.table.specs.WellFormed.{wellFormed}
+use Rattle.calls.specs.declared.reply.Outcome.{Outcome}
+use Rattle.calls.specs.Steps.{closed}
+use Rattle.calls.specs.Modify.{mismatch, modifyOf}
+use Rattle.calls.specs.Others.{activateDefaultOf, activateDedicatedOf, deactivateOf, rejectOf, startOf}
+
+-- a call, with any arguments
+pub data Call : Type 0 where
+  activateDefault : (bearer : ℕ) → Call
+  activateDedicated : (bearer link transaction : ℕ) → (value : List ℕ) → Call
+  modify : (bearer transaction : ℕ) → (value : List ℕ) → Call
+  deactivate : (bearer transaction : ℕ) → Call
+  reject : (transaction cause : ℕ) → Call
+  start : (transaction bearer : ℕ) → Call
+
+-- its outcome, by the definition that the contract of the function cites
+abbrev pub outcomeOf : Table → Call → Outcome
+outcomeOf t (activateDefault bearer) = activateDefaultOf t bearer
+outcomeOf t (activateDedicated bearer link transaction value) = activateDedicatedOf t bearer link transaction value
+outcomeOf t (modify bearer transaction value) = modifyOf t bearer transaction value
+outcomeOf t (deactivate bearer transaction) = deactivateOf t bearer transaction
+outcomeOf t (reject transaction cause) = rejectOf t transaction cause
+outcomeOf t (start transaction bearer) = startOf t transaction bearer
+
+-- each table is fed into the next call; refused calls are in the list like any other
+unfoldable pub run : Table → List Call → Table
+run t [] = t
+run t (c ∷ cs) = run (outcomeOf t c .table) cs
+
+abbrev pub reached : List Call → Table
+reached cs = run emptyTable cs
+
+-- what is asked of a call's arguments, and no more: octets are octets, and a transaction that is started is a number of its type
+abbrev pub Sent : Call → Type 0
+Sent (activateDefault bearer) = Unit {0}
+Sent (activateDedicated bearer link transaction value) = All Octet value
+Sent (modify bearer transaction value) = All Octet value
+Sent (deactivate bearer transaction) = Unit {0}
+Sent (reject transaction cause) = Unit {0}
+Sent (start transaction bearer) = transaction < 2 ^ 8
+
+-- "Numbers given", of those that a call may give; 0 where nothing is refused
+abbrev pub numbersOf : Call → List ℕ
+numbersOf (activateDefault bearer) = 0 ∷ 1 ∷ 43 ∷ []
+numbersOf (activateDedicated bearer link transaction value) = 0 ∷ 1 ∷ 41 ∷ 42 ∷ 43 ∷ 44 ∷ 45 ∷ 47 ∷ []
+numbersOf (modify bearer transaction value) = 0 ∷ 1 ∷ 41 ∷ 42 ∷ 43 ∷ 44 ∷ 45 ∷ 47 ∷ []
+numbersOf (deactivate bearer transaction) = 0 ∷ 1 ∷ []
+numbersOf (reject transaction cause) = 0 ∷ 1 ∷ 3 ∷ []
+numbersOf (start transaction bearer) = 0 ∷ 1 ∷ 4 ∷ 5 ∷ 6 ∷ 7 ∷ []
+
+-- the table as a refusal leaves it: "A match is closed, whatever follows."
+abbrev pub matchedIn : Table → ℕ → Table
+matchedIn t transaction = pick (wellFormed t && not (mismatch t transaction)) (closed t transaction) t
+
+abbrev pub leftBy : Table → Call → Table
+leftBy t (activateDefault bearer) = t
+leftBy t (activateDedicated bearer link transaction value) = matchedIn t transaction
+leftBy t (modify bearer transaction value) = matchedIn t transaction
+leftBy t (deactivate bearer transaction) = t
+leftBy t (reject transaction cause) = t
+leftBy t (start transaction bearer) = t
