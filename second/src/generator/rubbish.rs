@@ -1,0 +1,155 @@
+//! Lines that are bad, lines that are unusually written, and input that is no script at all.
+
+use crate::lines::LONGEST_LINE;
+use crate::random::Random;
+
+const LINES: [&str; 28] = [
+    "default 5",
+    "dedicated 6 5 0 21310A0530115013C4",
+    "modify 5 0 C0",
+    "deactivate 5 0",
+    "start 1 5",
+    "reject 1 43",
+    "route 5 4 C0000201000000000000000000000000 17 1000 5060 0 0 0",
+    "check",
+    "element A10F",
+    "rewrite C0 4",
+    "compose none",
+    "filter 1 10 3 30 11",
+    "identifier 3",
+    "emit 40",
+    "force 5 default 0",
+    "place 5 0 0 0 30 06",
+    "show",
+    "repeat 3 check",
+    "repeat 0 check",
+    "repeat 2 repeat 2 check",
+    "repeat 7",
+    "repeat 7 # nothing",
+    "default 256",
+    "route 5 4 C0000201 17 1000 5060 0 0 0",
+    "element C",
+    "filter 16 10 3 30 11",
+    "place 4 0 0 0",
+    "emit 513",
+];
+
+/// A line of the language with something wrong about it, or nothing of the kind.
+pub fn bad_line(random: &mut Random) -> Vec<u8> {
+    let line = random.pick(&LINES);
+    match random.below(12) {
+        0 => (0..random.below(30)).map(|_| not_lf(random)).collect(),
+        1 if random.one_in(3) => long_line(random),
+        2 => with_word(random, line, "0"),
+        3 => with_word(random, line, "-"),
+        4 => with_word(random, line, "99999999999"),
+        5 => without_word(random, line),
+        6 => line.replace(' ', "\t").into_bytes(),
+        7 => line.to_uppercase().into_bytes(),
+        8 => line.as_bytes().to_vec(),
+        _ => with_octet_changed(random, line.as_bytes()),
+    }
+}
+
+fn not_lf(random: &mut Random) -> u8 {
+    match random.octet() {
+        b'\n' => b' ',
+        octet => octet,
+    }
+}
+
+fn with_octet_changed(random: &mut Random, line: &[u8]) -> Vec<u8> {
+    let mut octets = line.to_vec();
+    let at = random.below(octets.len());
+    let any = not_lf(random);
+    octets[at] = random.pick(&[b' ', b'\t', b'0', b'9', b'x', b'#', b'\r', 0, any]);
+    octets
+}
+
+fn with_word(random: &mut Random, line: &str, word: &str) -> Vec<u8> {
+    let mut words: Vec<&str> = line.split(' ').collect();
+    words.insert(random.below(words.len() + 1), word);
+    words.join(" ").into_bytes()
+}
+
+fn without_word(random: &mut Random, line: &str) -> Vec<u8> {
+    let mut words: Vec<&str> = line.split(' ').collect();
+    words.remove(random.below(words.len()));
+    words.join(" ").into_bytes()
+}
+
+/// About as long as a line may be: a call, a comment or nothing, before or after many spaces.
+fn long_line(random: &mut Random) -> Vec<u8> {
+    let length = LONGEST_LINE - 2 + random.below(5);
+    let text = random.pick(&["check", "# comment", "", "element C0", "show"]).as_bytes();
+    let spaces = vec![b' '; length - text.len()];
+    if random.one_in(2) {
+        [&spaces, text].concat()
+    } else {
+        [text, &spaces].concat()
+    }
+}
+
+pub fn passed_over(random: &mut Random) -> Vec<u8> {
+    let line: &[u8] = match random.below(5) {
+        0 => b"",
+        1 => b"   ",
+        2 => b"# the table so far",
+        3 => b"  #modify 5 0 C0",
+        _ => b"#",
+    };
+    line.to_vec()
+}
+
+/// The same line, written as few would: more spaces, leading zeros, small letters, or one octet changed.
+pub fn unusual(random: &mut Random, line: Vec<u8>) -> Vec<u8> {
+    let text = String::from_utf8_lossy(&line).into_owned();
+    match random.below(6) {
+        0 => format!("  {text} ").into_bytes(),
+        1 => text.replace(' ', "   ").into_bytes(),
+        2 => text.replacen(' ', " 00", 1).into_bytes(),
+        3 => text.to_lowercase().into_bytes(),
+        4 => with_word(random, &text, "7"),
+        _ => with_octet_changed(random, &line),
+    }
+}
+
+/// A script with octets changed, left out and put in.
+pub fn damaged(seed: u64, mut script: Vec<u8>) -> Vec<u8> {
+    let mut random = Random::new(seed);
+    for _ in 0..1 + script.len() / 200 {
+        let at = random.below(script.len());
+        match random.below(4) {
+            0 => script[at] = random.octet(),
+            1 => script[at] = random.pick(b" \n\r\t#0159-"),
+            2 => script.insert(at, random.pick(b" \n\r0")),
+            _ => {
+                script.remove(at);
+            }
+        }
+    }
+    script
+}
+
+/// Octets of any kind, very long lines, words of the language, with or without an LF at the end.
+pub fn rubbish(seed: u64) -> Vec<u8> {
+    let mut random = Random::new(seed);
+    let mut octets = Vec::new();
+    for _ in 0..random.below(60) {
+        octets.extend(rubbish_line(&mut random));
+        octets.extend(random.pick::<&[u8]>(&[b"\n", b"\n", b"\r\n", b"\r\r\n", b"\n\r\n", b"\r", b""]));
+    }
+    octets
+}
+
+fn rubbish_line(random: &mut Random) -> Vec<u8> {
+    match random.below(8) {
+        0 => (0..random.below(300)).map(|_| random.octet()).collect(),
+        1 => long_line(random),
+        2 => vec![random.pick(b" #0C\0\xFF\r"); random.below(20_000)],
+        3 => passed_over(random),
+        4 => [b"element ".to_vec(), vec![b'A'; random.below(1030)]].concat(),
+        5 => bad_line(random),
+        _ => random.pick(&LINES).as_bytes().to_vec(),
+    }
+}

@@ -1,0 +1,171 @@
+//! One table, one operation being composed, and the calls of the bench language on them.
+
+use std::hint::black_box;
+
+use crate::calls::{self, Answer, NOT_WELL_FORMED};
+use crate::element::{self, Operation};
+use crate::route;
+use crate::script::{asked, Asked, Call, LARGEST_BUFFER};
+use crate::table::Table;
+use crate::text::{self, Text};
+
+#[derive(Default)]
+pub struct Session {
+    pub table: Table,
+    pub composed: Option<Operation>,
+    reply: Text,
+}
+
+/// What a buffer holds before the writer comes.
+const BEFORE: u8 = 0xEE;
+
+impl Session {
+    /// Does what a line asks for and appends the reply.
+    pub fn line(&mut self, number: u64, line: &[u8], too_long: bool, out: &mut Text) {
+        let asked = if too_long { Asked::Bad } else { asked(line) };
+        let done = match asked {
+            Asked::Nothing => Some(()),
+            Asked::Bad => None,
+            Asked::Call { times, call } => self.repeat(times, &call, out),
+        };
+        if done.is_none() {
+            text::line(out, "bad line ", number);
+        }
+    }
+
+    /// Does the call as often as asked and keeps the last reply. Nothing where the call needs a `compose` before it.
+    fn repeat(&mut self, times: u32, call: &Call, out: &mut Text) -> Option<()> {
+        let mut reply = std::mem::take(&mut self.reply);
+        let mut done = Some(());
+        // Every one of the calls is really done, so that a repeat can be timed. The long reply to an element is made once.
+        let unheard = if matches!(call, Call::Element { .. }) { times - 1 } else { 0 };
+        for _ in 0..unheard {
+            read_unheard(black_box(call));
+        }
+        for _ in unheard..times {
+            reply.clear();
+            done = black_box(&mut *self).call(black_box(call), &mut reply);
+        }
+        out.extend_from_slice(&reply);
+        self.reply = reply;
+        done
+    }
+
+    fn call(&mut self, call: &Call, out: &mut Text) -> Option<()> {
+        match call {
+            Call::Check => check(&self.table, out),
+            Call::Route { default, header } => text::route(out, &route::route(&self.table, *default, header)),
+            Call::Element { octets } => element(octets.slice(), out),
+            Call::Rewrite { octets, size } => rewrite(octets.slice(), *size, out),
+            Call::Compose { .. } | Call::Filter { .. } | Call::Identifier { .. } | Call::Emit { .. } => {
+                return self.compose(call, out);
+            }
+            Call::Force { .. } | Call::Place { .. } => self.by_hand(call, out),
+            Call::Show => text::table(out, &self.table),
+            _ => text::answer(out, &self.answer(call)?),
+        }
+        Some(())
+    }
+
+    fn answer(&mut self, call: &Call) -> Option<Answer> {
+        let table = &mut self.table;
+        match *call {
+            Call::Default { bearer } => Some(calls::activate_default(table, bearer)),
+            Call::Dedicated { bearer, link, transaction, ref octets } => {
+                Some(calls::activate_dedicated(table, bearer, link, transaction, octets.slice()))
+            }
+            Call::Modify { bearer, transaction, ref octets } => {
+                Some(calls::modify(table, bearer, transaction, octets.slice()))
+            }
+            Call::Deactivate { bearer, transaction } => Some(calls::deactivate(table, bearer, transaction)),
+            Call::Start { transaction, bearer } => Some(calls::start(table, transaction, bearer)),
+            Call::Reject { transaction, cause } => Some(calls::reject(table, transaction, cause)),
+            _ => None,
+        }
+    }
+
+    fn compose(&mut self, call: &Call, out: &mut Text) -> Option<()> {
+        if let Call::Compose { kind } = *call {
+            self.composed = Some(Operation::new(kind));
+            text::words(out, "composing ");
+            text::words(out, text::kind(kind));
+            text::words(out, "\n");
+            return Some(());
+        }
+        let composed = self.composed.as_mut()?;
+        match *call {
+            Call::Filter { identifier, filter } => {
+                composed.row[usize::from(identifier)] = filter;
+                text::filter(out, identifier, &filter);
+            }
+            Call::Identifier { identifier } => {
+                composed.identifiers |= 1 << identifier;
+                text::line(out, "identifier ", identifier);
+            }
+            Call::Emit { size } => written(composed, size, out),
+            _ => return None,
+        }
+        Some(())
+    }
+
+    fn by_hand(&mut self, call: &Call, out: &mut Text) {
+        match *call {
+            Call::Force { bearer, role, transaction } => {
+                let forced = self.table.bearer_mut(bearer).expect("the script takes 5 to 15");
+                forced.role = role;
+                forced.transaction = transaction;
+                text::line(out, "forced ", bearer);
+            }
+            Call::Place { bearer, identifier, filter } => {
+                let row = &mut self.table.bearer_mut(bearer).expect("the script takes 5 to 15").row;
+                row[usize::from(identifier)] = filter;
+                text::words(out, "placed ");
+                text::number(out, bearer);
+                text::line(out, " ", identifier);
+            }
+            _ => unreachable!("no call by hand"),
+        }
+    }
+}
+
+fn check(table: &Table, out: &mut Text) {
+    if table.is_well_formed() {
+        text::words(out, "well formed\n");
+    } else {
+        text::line(out, "refused ", NOT_WELL_FORMED);
+    }
+}
+
+fn read_unheard(call: &Call) {
+    if let Call::Element { octets } = call {
+        let _ = black_box(element::read(octets.slice()));
+    }
+}
+
+fn element(octets: &[u8], out: &mut Text) {
+    match element::read(octets) {
+        Ok(operation) => text::operation(out, &operation),
+        Err(cause) => text::line(out, "cause ", cause),
+    }
+}
+
+fn rewrite(octets: &[u8], size: usize, out: &mut Text) {
+    match element::read(octets) {
+        Ok(operation) => written(&operation, size, out),
+        Err(cause) => text::line(out, "cause ", cause),
+    }
+}
+
+fn written(operation: &Operation, size: usize, out: &mut Text) {
+    let mut buffer = [BEFORE; LARGEST_BUFFER];
+    match element::write(operation, &mut buffer[..size]) {
+        Ok(length) => {
+            text::words(out, "wrote ");
+            text::number(out, length as u64);
+            text::words(out, " ");
+            text::buffer(out, &buffer[..size]);
+            text::words(out, "\n");
+        }
+        Err(number) => text::line(out, "refused ", number),
+    }
+}

@@ -1,0 +1,183 @@
+//! How replies are written.
+
+use crate::calls::{Answer, Identities};
+use crate::element::{filters_in, Kind, Operation};
+use crate::filter::{Component, Filter, Row};
+use crate::route::Route;
+use crate::table::{identities, Bearer, Role, Table};
+
+pub type Text = Vec<u8>;
+
+pub fn words(text: &mut Text, words: &str) {
+    text.extend_from_slice(words.as_bytes());
+}
+
+pub fn number(text: &mut Text, number: impl Into<u64>) {
+    let mut digits = [0; 20];
+    let mut at = digits.len();
+    let mut left: u64 = number.into();
+    loop {
+        at -= 1;
+        digits[at] = b'0' + (left % 10) as u8;
+        left /= 10;
+        if left == 0 {
+            break;
+        }
+    }
+    text.extend_from_slice(&digits[at..]);
+}
+
+/// Words, a number, and the end of the line.
+pub fn line(text: &mut Text, before: &str, last: impl Into<u64>) {
+    words(text, before);
+    number(text, last);
+    text.push(b'\n');
+}
+
+pub fn hexadecimal(text: &mut Text, octets: &[u8]) {
+    const DIGITS: &[u8; 16] = b"0123456789ABCDEF";
+    for octet in octets {
+        text.push(DIGITS[usize::from(octet >> 4)]);
+        text.push(DIGITS[usize::from(octet & 15)]);
+    }
+}
+
+pub fn answer(text: &mut Text, answer: &Answer) {
+    match *answer {
+        Answer::Refused(number) => line(text, "refused ", number),
+        Answer::Accept { bearer, follow_up } => accept(text, bearer, follow_up),
+        Answer::Reject { bearer, cause } => {
+            words(text, "reject ");
+            number(text, bearer);
+            line(text, " ", cause);
+        }
+        Answer::Release { default } => line(text, "release ", default),
+        Answer::Reattach => words(text, "re-attach\n"),
+        Answer::Started(transaction) => line(text, "started ", transaction),
+        Answer::Closed(transaction) => line(text, "closed ", transaction),
+    }
+}
+
+fn accept(text: &mut Text, bearer: u8, follow_up: Identities) {
+    words(text, "accept ");
+    number(text, bearer);
+    if follow_up != 0 {
+        words(text, " follow-up");
+    }
+    for identity in identities().filter(|identity| follow_up >> identity & 1 == 1) {
+        words(text, " ");
+        number(text, identity);
+    }
+    words(text, "\n");
+}
+
+pub fn route(text: &mut Text, route: &Route) {
+    match *route {
+        Route::Refused(number) => line(text, "refused ", number),
+        Route::Bearer(bearer) => line(text, "bearer ", bearer),
+        Route::Discard => words(text, "discard\n"),
+    }
+}
+
+pub fn kind(kind: Kind) -> &'static str {
+    match kind {
+        Kind::Create => "create",
+        Kind::DeleteTft => "delete-tft",
+        Kind::Add => "add",
+        Kind::Replace => "replace",
+        Kind::DeleteFilters => "delete-filters",
+        Kind::None => "none",
+    }
+}
+
+pub fn operation(text: &mut Text, operation: &Operation) {
+    words(text, kind(operation.kind));
+    for identifier in (0..16u8).filter(|i| operation.identifiers >> i & 1 == 1) {
+        words(text, " ");
+        number(text, identifier);
+    }
+    words(text, "\n");
+    row(text, &operation.row);
+    words(text, "end\n");
+}
+
+fn row(text: &mut Text, row: &Row) {
+    for (identifier, held) in filters_in(row) {
+        words(text, "  ");
+        filter(text, identifier as u8, held);
+    }
+}
+
+/// A filter's line without its indent.
+pub fn filter(text: &mut Text, identifier: u8, filter: &Filter) {
+    words(text, "filter ");
+    number(text, identifier);
+    words(text, " precedence ");
+    number(text, filter.precedence);
+    words(text, " direction ");
+    number(text, filter.direction);
+    for held in filter.components() {
+        component(text, &held);
+    }
+    words(text, "\n");
+}
+
+fn component(text: &mut Text, component: &Component) {
+    match *component {
+        Component::Remote4 { address, mask } => masked(text, " remote4 ", &address, &mask),
+        Component::Remote6 { address, mask } => masked(text, " remote6 ", &address, &mask),
+        Component::Protocol(protocol) => one(text, " protocol ", protocol),
+        Component::LocalPort(port) => one(text, " local-port ", port),
+        Component::LocalRange { low, high } => two(text, " local-range ", low, "-", high),
+        Component::RemotePort(port) => one(text, " remote-port ", port),
+        Component::RemoteRange { low, high } => two(text, " remote-range ", low, "-", high),
+        Component::Index(index) => one(text, " index ", index),
+        Component::Class { class, mask } => two(text, " class ", class, "/", mask),
+        Component::Label(label) => one(text, " label ", label),
+    }
+}
+
+fn masked(text: &mut Text, name: &str, address: &[u8], mask: &[u8]) {
+    words(text, name);
+    hexadecimal(text, address);
+    words(text, "/");
+    hexadecimal(text, mask);
+}
+
+fn one(text: &mut Text, name: &str, value: impl Into<u64>) {
+    words(text, name);
+    number(text, value);
+}
+
+fn two(text: &mut Text, name: &str, first: impl Into<u64>, between: &str, second: impl Into<u64>) {
+    one(text, name, first);
+    one(text, between, second);
+}
+
+pub fn table(text: &mut Text, table: &Table) {
+    let shown = |bearer: &Bearer| !bearer.is_idle() || !bearer.holds_nothing();
+    for (identity, held) in table.numbered().filter(|(_, held)| shown(held)) {
+        bearer(text, identity, held);
+    }
+    words(text, "end\n");
+}
+
+fn bearer(text: &mut Text, identity: u8, bearer: &Bearer) {
+    words(text, "bearer ");
+    number(text, identity);
+    match bearer.role {
+        Role::Idle => words(text, " idle"),
+        Role::Default => words(text, " default"),
+        Role::Dedicated { link } => one(text, " dedicated ", link),
+    }
+    line(text, " transaction ", bearer.transaction);
+    row(text, &bearer.row);
+}
+
+/// "the whole buffer in HEX (`-` where N is 0)"
+pub fn buffer(text: &mut Text, octets: &[u8]) {
+    if octets.is_empty() {
+        words(text, "-");
+    }
+    hexadecimal(text, octets);
+}
