@@ -1,0 +1,15 @@
+-- `session::run::call_times` is safe and ends. Nothing has to hold from turn to turn.
+-- Assumes nothing.
+use Prim.Native.Nat.{_-_}
+use borrow.Author.Needs.{needs}
+use Rattle.session.proofs.run.call_times.Statement.{statement}
+use Rattle.session.proofs.run.call_times.Tie as tie
+
+abbrev Inv-loop : tie.InvT-loop
+Inv-loop call octets times outcome₀ i₀ outcome i = Unit {0}
+
+abbrev μ-loop : tie.MeasureT-loop
+μ-loop call octets times outcome₀ i₀ outcome i = times - i
+
+pub call-times-spec : {M : Type 1} → statement M
+call-times-spec = tie.close (tie.spec Inv-loop μ-loop (λ c κs. search needs) (λ c. search needs) (λ c κs. search needs) (λ c. search needs) (λ c. search needs) (λ c. search needs) (λ c. search needs))
