@@ -23,7 +23,8 @@ use Rattle.calls.specs.declared.reply.Outcome.{Outcome}
 use Rattle.calls.specs.Reply.{causeNumber, numberOf, causeOf}
 use Rattle.calls.specs.Steps.{isOpen, closed, openedView, empties}
 use Rattle.calls.specs.Lay.{laid}
-use Rattle.calls.specs.Modify.{mismatch, operationOf, headFine, creates, deleteFilters, deletedTft, modifiedBy, modifyRead, modifyNamed, modifyOf}
+use Rattle.element.specs.Head.{operationOf, headFine}
+use Rattle.calls.specs.Modify.{mismatch, creates, deleteFilters, deletedTft, modifiedBy, modifyRead, modifyNamed, modifyOf}
 use Rattle.calls.specs.Others.{free, activateDefaultOf, activatedBy, activateRead, activateNamed, activateDedicatedOf, deactivateOf, rejectOf, startOf}
 use Rattle.calls.specs.Changes.{Gives}
 use Rattle.calls.proofs.Theorems.{laid-number}

@@ -19,7 +19,9 @@ use Rattle.filter.specs.Coding.{held}
 use Rattle.table.specs.declared.bearer.Role.{Role}
 use Rattle.table.specs.declared.bearer.Role.the-variants.{Idle}
 use Rattle.table.specs.declared.bearer.Table.{Table}
-use Rattle.table.specs.Bearers.{bearerCount, placeCount, emptyFilter, inRow, roleAt, bearerAt, identityOf, isDefault, isDedicated}
+use Rattle.filter.specs.Sizes.{placeCount}
+use Rattle.filter.specs.Build.{emptyFilter}
+use Rattle.table.specs.Bearers.{bearerCount, inRow, roleAt, bearerAt, identityOf, isDefault, isDedicated}
 use Rattle.calls.specs.Steps.{ofConnection}
 use Rattle.calls.specs.Lay.{old, takenBy, takes, conflict, placed, conflictIn, loses, placedIn, losesAt, frees, follows, released, followers}
 

@@ -17,7 +17,9 @@ use Rattle.filter.specs.Fittable.{SomePacketFits}
 use Rattle.table.specs.declared.bearer.Role.{Role}
 use Rattle.table.specs.declared.bearer.Role.the-variants.{Idle, Default, Dedicated}
 use Rattle.table.specs.declared.bearer.Table.{Table}
-use Rattle.table.specs.Bearers.{firstIdentity, lastIdentity, bearerCount, placeCount, lastTransaction, inRange, indexOf, identityOf, emptyFilter, inRow, roleAt, transactionAt, filterAt, View, view, build, isIdle, isDefault, roleOf, connectionOf, connectionAt}
+use Rattle.filter.specs.Sizes.{placeCount}
+use Rattle.filter.specs.Build.{emptyFilter}
+use Rattle.table.specs.Bearers.{firstIdentity, lastIdentity, bearerCount, lastTransaction, inRange, indexOf, identityOf, inRow, roleAt, transactionAt, filterAt, View, view, build, isIdle, isDefault, roleOf, connectionOf, connectionAt}
 use Rattle.table.specs.WellFormed.{Held, Well, WellFormed}
 use Rattle.table.proofs.Meaning.{Fine, idle-says, range-says}
 use Rattle.calls.specs.Steps.{opensAt, closedView, closed, startedView, openedView, cutView, ofConnection, isAt, droppedBy, dropped, deletedIn, deletedView}

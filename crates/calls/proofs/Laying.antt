@@ -20,7 +20,9 @@ use Rattle.table.specs.declared.bearer.Role.{Role}
 use Rattle.table.specs.declared.bearer.Role.the-variants.{Idle, Default, Dedicated}
 use Rattle.table.specs.declared.bearer.Bearer.{Bearer}
 use Rattle.table.specs.declared.bearer.Table.{Table}
-use Rattle.table.specs.Bearers.{bearerCount, placeCount, indexOf, identityOf, emptyFilter, noBearer, bearerAt, inRow, roleAt, transactionAt, filterAt, View, view, build, isIdle, isDedicated, roleOf, connectionOf, connectionAt}
+use Rattle.filter.specs.Sizes.{placeCount}
+use Rattle.filter.specs.Build.{emptyFilter}
+use Rattle.table.specs.Bearers.{bearerCount, indexOf, identityOf, noBearer, bearerAt, inRow, roleAt, transactionAt, filterAt, View, view, build, isIdle, isDedicated, roleOf, connectionOf, connectionAt}
 use Rattle.table.specs.WellFormed.{wellFormed, Held, WellFormed}
 use Rattle.table.specs.Ranges.{TableInRange}
 use Rattle.table.proofs.Meaning.{default-says, dedicated-says, well-says}
@@ -37,7 +39,8 @@ use Rattle.calls.specs.declared.reply.Outcome.{Outcome}
 use Rattle.calls.specs.Reply.{followOf, answered, rejected}
 use Rattle.calls.specs.Steps.{opensAt, closedView, closed, cutView, ofConnection, deletedIn, deletedView, empties}
 use Rattle.calls.specs.Lay.{old, conflict, placed, conflictIn, loses, placedIn, losesAt, frees, follows, laidView, released, followers, otherAt, onlyConnection, laidBy, laidOn, laid}
-use Rattle.calls.specs.Modify.{malformed, mismatch, operationOf, headFine, creates, deleteFilters, deletedTft, modifiedBy, modifyRead, modifyNamed, modifyOf}
+use Rattle.element.specs.Head.{operationOf, headFine}
+use Rattle.calls.specs.Modify.{malformed, mismatch, creates, deleteFilters, deletedTft, modifiedBy, modifyRead, modifyNamed, modifyOf}
 use Rattle.calls.proofs.Views.{bearer-built, role-built, transaction-built, filter-built}
 use Rattle.calls.specs.Changes.{Listed, Lists, IsDedicated, Only, IsRelease, Taken, home, TakenAt, Trimmed, Conflict, Loses, Closing, Stays, Shortened, Void, Gone, Unnamed, stays, shortened, gone, Brings, Notes}
 use Rattle.calls.proofs.Kept.{no-held, closed-well, of-says, conflict-says, active-at}

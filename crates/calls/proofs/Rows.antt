@@ -15,7 +15,9 @@ use Rattle.filter.specs.declared.component.Filter.{Filter}
 use Rattle.table.specs.declared.bearer.Role.{Role}
 use Rattle.table.specs.declared.bearer.Bearer.{Bearer}
 use Rattle.table.specs.declared.bearer.Table.{Table}
-use Rattle.table.specs.Bearers.{bearerCount, placeCount, emptyFilter, noBearer, bearerAt, inRow, filterAt, View, bearerOf, tableOf, build}
+use Rattle.filter.specs.Sizes.{placeCount}
+use Rattle.filter.specs.Build.{emptyFilter}
+use Rattle.table.specs.Bearers.{bearerCount, noBearer, bearerAt, inRow, filterAt, View, bearerOf, tableOf, build}
 use Rattle.table.specs.Ranges.{TableInRange}
 
 -- a row is what stands in it

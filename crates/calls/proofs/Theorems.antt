@@ -22,7 +22,8 @@ use Rattle.calls.specs.Reply.{numberOf, rejected}
 use Rattle.calls.specs.Changes.{Refuses, Keeps}
 use Rattle.calls.specs.Steps.{isOpen, closed, openedView, empties}
 use Rattle.calls.specs.Lay.{released, onlyConnection, laidBy, laidOn, laid}
-use Rattle.calls.specs.Modify.{malformed, mismatch, operationOf, headFine, creates, deleteFilters, deletedTft, modifiedBy, modifyRead, modifyNamed, modifyOf}
+use Rattle.element.specs.Head.{operationOf, headFine}
+use Rattle.calls.specs.Modify.{malformed, mismatch, creates, deleteFilters, deletedTft, modifiedBy, modifyRead, modifyNamed, modifyOf}
 use Rattle.calls.specs.Others.{free, activateDefaultOf, activatedBy, activateRead, activateNamed, activateDedicatedOf, deactivateOf, rejectOf, startOf}
 
 -- ---- a table that is not well formed: every call gives 1 and hands it back as it was

@@ -16,7 +16,8 @@ use Rattle.filter.specs.declared.component.Filter.{Filter}
 use Rattle.filter.specs.Ranges.{FilterInRange}
 use Rattle.filter.proofs.Typed.{filter-in-range}
 use Rattle.filter.proofs.component.Filter as filter
-use Rattle.table.specs.Bearers.{bearerCount, placeCount}
+use Rattle.filter.specs.Sizes.{placeCount}
+use Rattle.table.specs.Bearers.{bearerCount}
 use Rattle.calls.specs.declared.reply.FollowUps.{FollowUps}
 use Rattle.calls.proofs.reply.FollowUps as follow
 

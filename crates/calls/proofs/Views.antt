@@ -3,7 +3,9 @@ use mathlib.Core.Path.{_≡_, _∙_, ap}
 use Prim.Native.Nat.{ℕ, _<_}
 use Rattle.laws.proofs.Index.{tab-at}
 use Rattle.table.specs.declared.bearer.Bearer.{Bearer}
-use Rattle.table.specs.Bearers.{bearerCount, placeCount, emptyFilter, noBearer, bearerAt, inRow, roleAt, transactionAt, filterAt, View, bearerOf, build}
+use Rattle.filter.specs.Sizes.{placeCount}
+use Rattle.filter.specs.Build.{emptyFilter}
+use Rattle.table.specs.Bearers.{bearerCount, noBearer, bearerAt, inRow, roleAt, transactionAt, filterAt, View, bearerOf, build}
 
 module _ (v : View) (i : ℕ) (l : i < bearerCount) where
   pub bearer-built : bearerAt (build v) i ≡ bearerOf v i

@@ -31,14 +31,17 @@ use Rattle.element.proofs.Given.{element-given, row-distinct, read-in-range}
 use Rattle.table.specs.declared.bearer.Role.{Role}
 use Rattle.table.specs.declared.bearer.Role.the-variants.{Idle, Default, Dedicated}
 use Rattle.table.specs.declared.bearer.Table.{Table}
-use Rattle.table.specs.Bearers.{firstIdentity, lastIdentity, bearerCount, placeCount, lastTransaction, inRange, indexOf, emptyFilter, noBearer, inRow, roleAt, transactionAt, filterAt, View, view, bearerOf, build, isIdle, isDefault, isDedicated, roleOf, connectionAt}
+use Rattle.filter.specs.Sizes.{placeCount}
+use Rattle.filter.specs.Build.{emptyFilter}
+use Rattle.table.specs.Bearers.{firstIdentity, lastIdentity, bearerCount, lastTransaction, inRange, indexOf, noBearer, inRow, roleAt, transactionAt, filterAt, View, view, bearerOf, build, isIdle, isDefault, isDedicated, roleOf, connectionAt}
 use Rattle.table.specs.Ranges.{RoleInRange, BearerInRange, TableInRange}
 use Rattle.table.specs.WellFormed.{wellFormed, Well, WellFormed}
 use Rattle.table.proofs.Meaning.{Fine, idle-says, default-says, range-says, place-says, well-says}
 use Rattle.calls.specs.declared.reply.Outcome.{Outcome}
 use Rattle.calls.specs.Steps.{opensAt, isOpen, ownerBelow, closedView, closed, startedView, openedView, cutView, ofConnection, isAt, droppedBy, dropped, deletedIn, deletedView, empties}
 use Rattle.calls.specs.Lay.{placedIn, laidView, released, laidBy, laidOn, laid}
-use Rattle.calls.specs.Modify.{creates, mismatch, operationOf, headFine, deleteFilters, deletedTft, modifiedBy, modifyRead, modifyNamed, modifyOf}
+use Rattle.element.specs.Head.{operationOf, headFine}
+use Rattle.calls.specs.Modify.{creates, mismatch, deleteFilters, deletedTft, modifiedBy, modifyRead, modifyNamed, modifyOf}
 use Rattle.calls.specs.Others.{free, activateDefaultOf, activatedBy, activateRead, activateNamed, activateDedicatedOf, deactivateOf, rejectedBy, rejectOf, startOf}
 use Rattle.calls.specs.Changes.{Kept}
 use Rattle.calls.proofs.Views.{role-built}

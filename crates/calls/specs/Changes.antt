@@ -13,7 +13,9 @@ use Rattle.element.specs.declared.answer.SetOperation.{SetOperation}
 use Rattle.element.specs.Read.{readElement}
 use Rattle.table.specs.declared.bearer.Role.the-variants.{Idle, Default, Dedicated}
 use Rattle.table.specs.declared.bearer.Table.{Table}
-use Rattle.table.specs.Bearers.{bearerCount, placeCount, indexOf, identityOf, emptyFilter, bearerAt, inRow, roleAt, transactionAt, filterAt, View, view, connectionAt}
+use Rattle.filter.specs.Sizes.{placeCount}
+use Rattle.filter.specs.Build.{emptyFilter}
+use Rattle.table.specs.Bearers.{bearerCount, indexOf, identityOf, bearerAt, inRow, roleAt, transactionAt, filterAt, View, view, connectionAt}
 use Rattle.table.specs.Ranges.{TableInRange}
 use Rattle.table.specs.WellFormed.{Held, WellFormed}
 use Rattle.calls.specs.declared.reply.Answer.{Answer}

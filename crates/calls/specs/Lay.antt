@@ -9,7 +9,9 @@ use Rattle.laws.specs.Index.{anyBelow, picks}
 use Rattle.filter.specs.declared.component.Filter.{Filter}
 use Rattle.filter.specs.Coding.{held}
 use Rattle.table.specs.declared.bearer.Table.{Table}
-use Rattle.table.specs.Bearers.{bearerCount, placeCount, indexOf, identityOf, emptyFilter, bearerAt, inRow, roleAt, transactionAt, View, build, isDefault, isDedicated, connectionAt}
+use Rattle.filter.specs.Sizes.{placeCount}
+use Rattle.filter.specs.Build.{emptyFilter}
+use Rattle.table.specs.Bearers.{bearerCount, indexOf, identityOf, bearerAt, inRow, roleAt, transactionAt, View, build, isDefault, isDedicated, connectionAt}
 use Rattle.calls.specs.declared.reply.Answer.{Answer}
 use Rattle.calls.specs.declared.reply.Answer.the-variants.{Accept, Release, Reattach}
 use Rattle.calls.specs.declared.reply.FollowUps.{FollowUps}

@@ -11,9 +11,11 @@ use Rattle.element.specs.declared.answer.BareOperation.the-variants.{DeleteTft,
 use Rattle.element.specs.declared.answer.Answer.{Answer as ReadAnswer}
 use Rattle.element.specs.declared.answer.Answer.the-variants.{Filters, Identifiers, Bare, Refused as readRefused}
 use Rattle.element.specs.declared.answer.Element.{Element}
+use Rattle.element.specs.Head.{deleteTft, operationOf, headFine}
 use Rattle.element.specs.Read.{readElement}
 use Rattle.table.specs.declared.bearer.Table.{Table}
-use Rattle.table.specs.Bearers.{placeCount, indexOf, build, isIdle, isDedicated, roleOf}
+use Rattle.filter.specs.Sizes.{placeCount}
+use Rattle.table.specs.Bearers.{indexOf, build, isIdle, isDedicated, roleOf}
 use Rattle.table.specs.WellFormed.{wellFormed}
 use Rattle.calls.specs.declared.reply.Cause.the-variants.{TftSemantics, TftSyntax, BearerIdentity, Transaction}
 use Rattle.calls.specs.declared.reply.Refusal.the-variants.{NotWellFormed}
@@ -30,13 +32,6 @@ malformed t = answered t (Refused NotWellFormed)
 -- Step 2: "Transaction identity 1 to 254 not open, or 255 (house): 47. 0 means none."
 abbrev pub mismatch : Table → ℕ → Bool
 mismatch t x = not (eqb x 0) && not (isOpen t x)
-
--- Step 4: "Value length 0 or above 255, operation 0 or 7: 42."
-abbrev pub operationOf : List ℕ → ℕ
-operationOf value = getD value 0 0 / 32
-
-unfoldable pub headFine : List ℕ → Bool
-headFine value = leb 1 (length value) && leb (length value) 255 && leb 1 (operationOf value) && leb (operationOf value) 6
 
 -- ---- Then: "create puts the new set in place of the old. .. Add and replace lay the new filters over the old by identifier"
 abbrev pub creates : SetOperation → Bool
@@ -65,10 +60,10 @@ modifiedBy (Bare NoOperation) t bearer e = answered t (Accept bearer)
 -- Step 5: "Delete TFT on a dedicated bearer, with or without a TFT: 41."
 unfoldable pub modifyRead : Table → ℕ → List ℕ → Outcome
 modifyRead t bearer value =
-    pick (isDedicated (roleOf t bearer) && eqb (operationOf value) 2) (rejected t bearer TftSemantics)
+    pick (isDedicated (roleOf t bearer) && eqb (operationOf value) deleteTft) (rejected t bearer TftSemantics)
     (modifiedBy (readElement value .answer) t bearer (readElement value))
 
--- Step 3: "Bearer not 5 to 15, or idle: 43."
+-- Step 3: "Bearer not 5 to 15, or idle: 43." Step 4: "Value length 0 or above 255, operation 0 or 7: 42."
 unfoldable pub modifyNamed : Table → ℕ → List ℕ → Outcome
 modifyNamed t bearer value =
     pick (isIdle (roleOf t bearer)) (rejected t bearer BearerIdentity)

@@ -7,6 +7,7 @@ use Rattle.laws.specs.Says.{pick}
 use Rattle.element.specs.declared.answer.Answer.{Answer as ReadAnswer}
 use Rattle.element.specs.declared.answer.Answer.the-variants.{Filters, Identifiers, Bare, Refused as readRefused}
 use Rattle.element.specs.declared.answer.Element.{Element}
+use Rattle.element.specs.Head.{create, operationOf, headFine}
 use Rattle.element.specs.Read.{readElement}
 use Rattle.table.specs.declared.bearer.Role.the-variants.{Default, Dedicated}
 use Rattle.table.specs.declared.bearer.Table.{Table}
@@ -19,7 +20,7 @@ use Rattle.calls.specs.declared.reply.Outcome.{Outcome}
 use Rattle.calls.specs.Reply.{causeOf, answered, rejected}
 use Rattle.calls.specs.Steps.{isOpen, ownerBelow, closed, startedView, openedView, dropped}
 use Rattle.calls.specs.Lay.{laid}
-use Rattle.calls.specs.Modify.{malformed, mismatch, operationOf, headFine}
+use Rattle.calls.specs.Modify.{malformed, mismatch}
 
 -- "Default activation: 1, then 43 for an identity outside 5 to 15 or in use (house); else accept, and the bearer is a default without TFT."
 abbrev pub free : Table → ℕ → Bool
@@ -40,7 +41,7 @@ activatedBy (Bare operation) t bearer link e = rejected t bearer TftSemantics
 
 unfoldable pub activateRead : Table → ℕ → ℕ → List ℕ → Outcome
 activateRead t bearer link value =
-    pick (eqb (operationOf value) 1) (activatedBy (readElement value .answer) t bearer link (readElement value)) (rejected t bearer TftSemantics)
+    pick (eqb (operationOf value) create) (activatedBy (readElement value .answer) t bearer link (readElement value)) (rejected t bearer TftSemantics)
 
 unfoldable pub activateNamed : Table → ℕ → ℕ → List ℕ → Outcome
 activateNamed t bearer link value =

@@ -12,7 +12,9 @@ use Rattle.table.specs.declared.bearer.Role.{Role}
 use Rattle.table.specs.declared.bearer.Role.the-variants.{Idle, Default, Dedicated}
 use Rattle.table.specs.declared.bearer.Bearer.{Bearer}
 use Rattle.table.specs.declared.bearer.Table.{Table}
-use Rattle.table.specs.Bearers.{bearerCount, placeCount, lastTransaction, indexOf, identityOf, emptyFilter, bearerAt, inRow, roleAt, transactionAt, filterAt, View, build, roleOf, connectionAt}
+use Rattle.filter.specs.Sizes.{placeCount}
+use Rattle.filter.specs.Build.{emptyFilter}
+use Rattle.table.specs.Bearers.{bearerCount, lastTransaction, indexOf, identityOf, bearerAt, inRow, roleAt, transactionAt, filterAt, View, build, roleOf, connectionAt}
 
 -- ---- transactions
 unfoldable pub opensAt : Table → ℕ → ℕ → Bool

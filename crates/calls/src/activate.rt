@@ -2,10 +2,8 @@
 ghost use mathlib.Core.Path.{_≡_};
 ghost use Rattle.calls.specs.Others.{free, activatedBy, activateRead, activateNamed, activateDefaultOf, activateDedicatedOf};
 use crate::lay::lay;
-use crate::modify::head_fine;
 use crate::modify::malformed_table;
 use crate::modify::mismatches;
-use crate::modify::operation_of;
 use crate::reply::Answer;
 use crate::reply::Cause;
 use crate::reply::Outcome;
@@ -15,6 +13,9 @@ use crate::reply::reject_with;
 use crate::steps::close;
 use crate::steps::opened_table;
 use element::Element;
+use element::head::CREATE;
+use element::head::head_fine;
+use element::head::operation_of;
 use element::read::read;
 use table::Role;
 use table::Table;
@@ -68,7 +69,7 @@ fn activate_by(t: Table, bearer: u8, link: u8, e: Element) -> Outcome
 fn activate_read(t: Table, bearer: u8, link: u8, value: &[u8]) -> Outcome
     ensures { λ r. ⌜ r ≡ activateRead t bearer link (now (value .entry)) ⌝ }
 {
-    if !(operation_of(value) == 1) {
+    if !(operation_of(value) == CREATE) {
         return reject_with(t, bearer, Cause::TftSemantics);
     }
     activate_by(t, bearer, link, read(value))

@@ -7,7 +7,8 @@ ghost use Rattle.laws.specs.Says.{pick};
 ghost use Rattle.laws.specs.Index.{anyBelow, picks, tab};
 ghost use Rattle.filter.specs.Coding.{held};
 ghost use Rattle.table.specs.declared.bearer.Role.the-variants.{Idle};
-ghost use Rattle.table.specs.Bearers.{emptyFilter, roleAt, identityOf, isDefault, isDedicated, build};
+ghost use Rattle.filter.specs.Build.{emptyFilter};
+ghost use Rattle.table.specs.Bearers.{roleAt, identityOf, isDefault, isDedicated, build};
 ghost use Rattle.calls.specs.Reply.{followOf};
 ghost use Rattle.calls.specs.Lay.{takes, loses, placedIn, losesAt, laidView, noted, onlyConnection, laidOn, laid};
 use crate::reply::Answer;
@@ -20,18 +21,17 @@ use crate::steps::of_connection;
 use crate::steps::without_connection;
 use filter::Filter;
 use filter::coding::held;
+use filter::component::PLACES;
+use filter::component::PRECEDENCES;
 use table::Bearer;
 use table::Role;
 use table::Table;
 use table::bearer::BEARERS;
 use table::bearer::FIRST_IDENTITY;
-use table::bearer::PLACES;
 use table::bearer::connection_at;
 use table::bearer::index_of;
 use table::bearer::is_dedicated;
 use table::bearer::is_default;
-
-const PRECEDENCES: usize = 256;
 
 fn choose(b: bool, x: Filter, y: Filter) -> Filter
     ensures { λ r. ⌜ r ≡ pick b x y ⌝ }

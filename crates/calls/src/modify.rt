@@ -1,6 +1,6 @@
 // The modify message.
 ghost use mathlib.Core.Path.{_≡_};
-ghost use Rattle.calls.specs.Modify.{malformed, mismatch, operationOf, headFine, creates, deleteFilters, deletedTft, modifiedBy, modifyRead, modifyNamed, modifyOf};
+ghost use Rattle.calls.specs.Modify.{malformed, mismatch, creates, deleteFilters, deletedTft, modifiedBy, modifyRead, modifyNamed, modifyOf};
 use crate::lay::lay;
 use crate::reply::Answer;
 use crate::reply::Cause;
@@ -16,16 +16,17 @@ use crate::steps::is_open;
 use element::BareOperation;
 use element::Element;
 use element::SetOperation;
+use element::head::DELETE_TFT;
+use element::head::head_fine;
+use element::head::operation_of;
 use element::read::read;
+use filter::component::PLACES;
 use table::Table;
-use table::bearer::PLACES;
 use table::bearer::index_of;
 use table::bearer::is_dedicated;
 use table::bearer::is_idle;
 use table::bearer::role_of;
 use table::well_formed::well_formed;
-
-const LONGEST: usize = 255;
 
 pub(crate) fn malformed_table(t: Table) -> Outcome
     ensures { λ r. ⌜ r ≡ malformed t ⌝ }
@@ -37,20 +38,6 @@ pub(crate) fn mismatches(t: Table, transaction: u8) -> bool
     ensures { λ r. ⌜ r ≡ mismatch t transaction ⌝ }
 {
     !(transaction == 0) & !is_open(t, transaction)
-}
-
-// The operation of a value that has octets; 0 of one that has none.
-pub(crate) fn operation_of(value: &[u8]) -> u8
-    ensures { λ r. ⌜ r ≡ operationOf (now (value .entry)) ⌝ }
-{
-    if value.len() == 0 { 0 } else { value[0] / 32 }
-}
-
-pub(crate) fn head_fine(value: &[u8]) -> bool
-    ensures { λ r. ⌜ r ≡ headFine (now (value .entry)) ⌝ }
-{
-    let operation = operation_of(value);
-    (1 <= value.len()) & (value.len() <= LONGEST) & (1 <= operation) & (operation <= 6)
 }
 
 fn does_create(operation: SetOperation) -> bool
@@ -107,7 +94,7 @@ fn modify_by(t: Table, bearer: u8, e: Element) -> Outcome
 fn modify_read(t: Table, bearer: u8, value: &[u8]) -> Outcome
     ensures { λ r. ⌜ r ≡ modifyRead t bearer (now (value .entry)) ⌝ }
 {
-    if is_dedicated(role_of(t, bearer)) & (operation_of(value) == 2) {
+    if is_dedicated(role_of(t, bearer)) & (operation_of(value) == DELETE_TFT) {
         return reject_with(t, bearer, Cause::TftSemantics);
     }
     modify_by(t, bearer, read(value))

@@ -5,20 +5,20 @@ ghost use lib.Dec.{eqb};
 ghost use Prim.Native.Nat.{_<_};
 ghost use Rattle.laws.specs.Says.{pick};
 ghost use Rattle.laws.specs.Index.{anyBelow, tab};
-ghost use Rattle.table.specs.Bearers.{emptyFilter, build, connectionOf};
+ghost use Rattle.filter.specs.Build.{emptyFilter};
+ghost use Rattle.table.specs.Bearers.{build, connectionOf};
 ghost use Rattle.calls.specs.Steps.{opensAt, isOpen, ownerBelow, closedView, closed, startedView, openedView, cutView, ofConnection, isAt, cutBearer, dropped, deletedIn, deletedView, holdsIn, staysIn, empties};
 use filter::Filter;
 use filter::coding::held;
+use filter::component::PLACES;
 use table::Bearer;
 use table::Role;
 use table::Table;
 use table::bearer::BEARERS;
 use table::bearer::FIRST_IDENTITY;
-use table::bearer::PLACES;
+use table::bearer::LAST_TRANSACTION;
 use table::bearer::index_of;
 use table::bearer::role_of;
-
-const LAST_TRANSACTION: u8 = 254;
 
 fn opens_any(t: Table, x: u8) -> bool
     ensures { λ r. ⌜ r ≡ anyBelow (opensAt t x) 11 ⌝ }

@@ -21,7 +21,9 @@ use Rattle.element.specs.declared.answer.Cause.the-variants.{Operation, 
 use Rattle.element.specs.declared.answer.Answer.{Answer}
 use Rattle.element.specs.declared.answer.Element.{Element}
 use Rattle.element.specs.Numbers.{numberOf}
-use Rattle.element.specs.Read.{placeCount, emptyFilter, noFilters, noMarks, withoutSets, refused, Entry, precedenceOf, fits, Entries, badly, coded, entriesOf, twice, laid, filterSet, marked, identifierSet, judgedEntries, judgedFrame, readValue, readElement}
+use Rattle.filter.specs.Sizes.{placeCount}
+use Rattle.filter.specs.Build.{emptyFilter}
+use Rattle.element.specs.Read.{noFilters, noMarks, withoutSets, refused, Entry, precedenceOf, fits, Entries, badly, coded, entriesOf, twice, laid, filterSet, marked, identifierSet, judgedEntries, judgedFrame, readValue, readElement}
 use Rattle.element.specs.Framing.{Raw, Framed, notFramed, filters, identifiers, bare, framedOf}
 use Rattle.element.specs.Write.{entriesFrom, someButNotAll, rowGiven, marksFrom, marksGiven, given}
 use Rattle.element.specs.Meaning.{Octet, ElementInRange, NoPacketFits, SomeFilterUnfit}

@@ -16,7 +16,8 @@ use Rattle.laws.proofs.Repeats.{not-in, no-repeat, turned, With, here, there, w
 use Rattle.laws.proofs.Tests.{or-right, neither}
 use Rattle.filter.specs.declared.component.Filter.{Filter}
 use Rattle.filter.specs.Coding.{held}
-use Rattle.element.specs.Read.{emptyFilter, noFilters, Entry, precedenceOf, twice, laid, marked}
+use Rattle.filter.specs.Build.{emptyFilter}
+use Rattle.element.specs.Read.{noFilters, Entry, precedenceOf, twice, laid, marked}
 use Rattle.element.specs.Write.{entriesFrom, marksFrom}
 use Rattle.element.proofs.Decoded.{EntryDecoded}
 

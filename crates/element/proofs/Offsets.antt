@@ -14,7 +14,8 @@ use Rattle.element.specs.declared.contents.Coded.{Coded}
 use Rattle.element.specs.declared.entries.Handed.the-variants.{End}
 use Rattle.element.specs.Read.{codedOf}
 use Rattle.element.specs.Walk.{placeOf, partEnd, rawAt}
-use Rattle.element.specs.Entries.{operationOf, hasFilters, restAt, passed, listEnd, codedFilter, firstFilter}
+use Rattle.element.specs.Head.{operationOf}
+use Rattle.element.specs.Entries.{hasFilters, restAt, passed, listEnd, codedFilter, firstFilter}
 use Rattle.element.proofs.Splitting.{rest-at, split-inside}
 use Rattle.element.proofs.Ending.{filter-next}
 

@@ -26,7 +26,8 @@ use Rattle.element.specs.declared.answer.Answer.{Answer}
 use Rattle.element.specs.declared.answer.Answer.the-variants.{Filters, Identifiers, Bare, Refused}
 use Rattle.element.specs.declared.answer.Element.{Element}
 use Rattle.element.specs.declared.contents.Coded.the-variants.{Well}
-use Rattle.element.specs.Read.{emptyFilter, noFilters, noMarks, withoutSets, Entry, precedenceOf, fits, codedOf, coded, entriesOf, twice, laid, marked, readValue}
+use Rattle.filter.specs.Build.{emptyFilter}
+use Rattle.element.specs.Read.{noFilters, noMarks, withoutSets, Entry, precedenceOf, fits, codedOf, coded, entriesOf, twice, laid, marked, readValue}
 use Rattle.element.specs.Framing.{Raw, identifierOf, directionOf, split, splitOf, restFits, framedSet, framedBy, framedOf, filters, identifiers}
 use Rattle.element.specs.Write.{contentsOctets, entryOctets, entriesFrom, entriesOctets, marksFrom, setNumber, octetsBy, octetsOf, someButNotAll, rowGiven, marksGiven, givenBy, given}
 use Rattle.element.specs.Meaning.{Octet, ElementInRange}

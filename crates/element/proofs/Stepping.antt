@@ -32,7 +32,8 @@ use Rattle.element.specs.Numbers.{causeNumber, numberOf, handedNumber}
 use Rattle.element.specs.Framing.{Raw, identifierOf, Split, cut, split, after, splitOf, restFits, Framed, notFramed, filters, identifiers, bare, framedSplit, framedSet, framedIdentifiers, framedBare, framedBy, framedOf}
 use Rattle.element.specs.Read.{noFilters, noMarks, refused, Entry, fits, codedOf, Entries as DecodedEntries, badly, coded, withEntry, entriesOf, twice, laid, filterSet, marked, judgedEntries, judgedFrame, readValue, readElement}
 use Rattle.element.specs.Walk.{partEnd, rawAt}
-use Rattle.element.specs.Entries.{filtersIn, framedIn, handedOut, nthBy, nthOf, startBy, startOf, operationOf, hasFilters, passed, listEnd, oneAt, entryAt, afterAt, afterAll, IsEntry, StepsThrough, emptySets, setsOf, laidInto, HandsOutAll, HandsOutCause}
+use Rattle.element.specs.Head.{operationOf}
+use Rattle.element.specs.Entries.{filtersIn, framedIn, handedOut, nthBy, nthOf, startBy, startOf, hasFilters, passed, listEnd, oneAt, entryAt, afterAt, afterAll, IsEntry, StepsThrough, emptySets, setsOf, laidInto, HandsOutAll, HandsOutCause}
 use Rattle.element.proofs.Splitting.{rest-at}
 use Rattle.element.proofs.Ending.{inside, splitFrom, filter-next}
 use Rattle.element.proofs.Offsets.{one-split, filter-one, end-some, end-within}

@@ -20,8 +20,7 @@ use Rattle.element.proofs.judge.Judged as judged
 use Rattle.element.proofs.survey.Survey as survey
 use Rattle.element.specs.declared.judge.Judged.{Judged}
 use Rattle.element.specs.declared.survey.Survey.{Survey}
-use Rattle.element.specs.Read.{placeCount}
-use Rattle.element.specs.Walk.{precedenceCount}
+use Rattle.filter.specs.Sizes.{placeCount, precedenceCount}
 use Rattle.element.specs.Meaning.{ElementInRange}
 
 any : (b : Bool) (vs : List Val) → Is Boolean b vs → Unit {0}

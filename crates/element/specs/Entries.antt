@@ -17,6 +17,7 @@ use Rattle.element.specs.declared.contents.Coded.{Coded, the-variants.Ba
 use Rattle.element.specs.declared.entries.Handed.{Handed}
 use Rattle.element.specs.declared.entries.Handed.the-variants.{Filter, Identifier, Refused, End}
 use Rattle.element.specs.declared.entries.Entries.{Entries}
+use Rattle.element.specs.Head.{operationOf, create, add, replace, deleteFilters}
 use Rattle.element.specs.Framing.{identifierOf, Split, cut, split, splitOf, Framed, notFramed, filters, identifiers, bare, framedOf}
 use Rattle.element.specs.Read.{noFilters, noMarks, codedOf, Entries as DecodedEntries, badly, coded, entriesOf, readElement}
 
@@ -54,13 +55,9 @@ startBy (refusedWith refusal) = 0
 unfoldable pub startOf : List ℕ → ℕ
 startOf xs = startBy (readElement xs .answer)
 
--- "Octet 1: operation in bits 8 to 6"
-abbrev pub operationOf : List ℕ → ℕ
-operationOf xs = getD xs 0 0 / 32
-
 -- "For 1, 3, 4 each filter is"
 abbrev pub hasFilters : ℕ → Bool
-hasFilters operation = eqb operation 1 || eqb operation 3 || eqb operation 4
+hasFilters operation = eqb operation create || eqb operation add || eqb operation replace
 
 -- the offset of what is left of the octets; of what is cut, the offset that was
 abbrev pub restAt : ℕ → ℕ → Split → ℕ
@@ -71,7 +68,7 @@ restAt total at (split rs rest) = total - length rest
 unfoldable pub passed : List ℕ → ℕ → ℕ → ℕ
 passed xs at n =
     pick (hasFilters (operationOf xs)) (restAt (length xs) at (splitOf n (drop at xs)))
-    (pick (eqb (operationOf xs) 5 && leb (at + n) (length xs)) (at + n) at)
+    (pick (eqb (operationOf xs) deleteFilters && leb (at + n) (length xs)) (at + n) at)
 
 -- "count in bits 4 to 1": the offset after the last entry
 unfoldable pub listEnd : List ℕ → ℕ
@@ -95,7 +92,7 @@ firstFilter (split [] rest) = End
 firstFilter (split (r ∷ rs) rest) = codedFilter (identifierOf r) (codedOf r)
 
 abbrev pub oneAt : List ℕ → ℕ → Handed
-oneAt xs at = pick (eqb (operationOf xs) 5) (Identifier (getD xs at 0 % 16)) (firstFilter (splitOf 1 (drop at xs)))
+oneAt xs at = pick (eqb (operationOf xs) deleteFilters) (Identifier (getD xs at 0 % 16)) (firstFilter (splitOf 1 (drop at xs)))
 
 unfoldable pub entryAt : List ℕ → ℕ → Handed
 entryAt xs at = pick (eqb at 0) (causeIn (readElement xs .answer)) (pick (ltb at (listEnd xs)) (oneAt xs at) End)

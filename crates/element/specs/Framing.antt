@@ -1,10 +1,11 @@
--- "Octet 1: operation in bits 8 to 6, E in bit 5, count in bits 4 to 1": how a value's octets are framed.
+-- How a value's octets are framed.
 use Prim.Native.Nat.{ℕ, zero, suc, _/_, _%_}
 use mathlib.Core.Bool.{Bool, true, false, not, _&&_}
 use mathlib.Core.List.{List, [], _∷_}
 use lib.Dec.{eqb, leb}
 use lib.ListN.{length, take, drop}
 use Rattle.laws.specs.Says.{pick}
+use Rattle.element.specs.Head.{operationIn, extensionIn, countIn, create, deleteTft, add, replace, deleteFilters, noOperation}
 use Rattle.element.specs.declared.answer.SetOperation.{SetOperation, the-variants.Create, the-variants.Add, the-variants.Replace}
 use Rattle.element.specs.declared.answer.BareOperation.{BareOperation, the-variants.DeleteTft, the-variants.NoOperation}
 
@@ -76,12 +77,12 @@ framedBare operation e n xs = pick (eqb n 0 && restFits e xs) (bare operation) n
 -- "Operations: 1 create, 2 delete TFT, 3 add, 4 replace, 5 delete filters, 6 no operation; 0 and 7 are refused"
 unfoldable pub framedBy : ℕ → ℕ → ℕ → List ℕ → Framed
 framedBy operation e n xs =
-    pick (eqb operation 1) (framedSet Create e n xs)
-    (pick (eqb operation 2) (framedBare DeleteTft e n xs)
-    (pick (eqb operation 3) (framedSet Add e n xs)
-    (pick (eqb operation 4) (framedSet Replace e n xs)
-    (pick (eqb operation 5) (framedIdentifiers e n xs) (pick (eqb operation 6) (framedBare NoOperation e n xs) notFramed)))))
+    pick (eqb operation create) (framedSet Create e n xs)
+    (pick (eqb operation deleteTft) (framedBare DeleteTft e n xs)
+    (pick (eqb operation add) (framedSet Add e n xs)
+    (pick (eqb operation replace) (framedSet Replace e n xs)
+    (pick (eqb operation deleteFilters) (framedIdentifiers e n xs) (pick (eqb operation noOperation) (framedBare NoOperation e n xs) notFramed)))))
 
 unfoldable pub framedOf : List ℕ → Framed
 framedOf [] = notFramed
-framedOf (x ∷ xs) = framedBy (x / 32) (x / 16 % 2) (x % 16) xs
+framedOf (x ∷ xs) = framedBy (operationIn x) (extensionIn x) (countIn x) xs

@@ -1,3 +1,4 @@
+pub mod Head
 pub mod Contents
 pub mod Framing
 pub mod Read

@@ -10,8 +10,10 @@ use Rattle.filter.specs.Ranges.{FilterInRange}
 use Rattle.filter.specs.Fittable.{SomePacketFits}
 use Rattle.element.specs.declared.answer.SetOperation.{SetOperation}
 use Rattle.element.specs.declared.answer.Element.{Element}
+use Rattle.element.specs.Head.{longest}
 use Rattle.element.specs.Numbers.{numberOf}
-use Rattle.element.specs.Read.{placeCount, Entry, coded, entriesOf, readValue}
+use Rattle.filter.specs.Sizes.{placeCount}
+use Rattle.element.specs.Read.{Entry, coded, entriesOf, readValue}
 use Rattle.element.specs.Framing.{Raw, filters, framedOf}
 
 abbrev pub Octet : ℕ → Type 0
@@ -34,7 +36,7 @@ NoPacketFits e = SomePacketFits (e .filter) → ⊥
 
 -- the value is framed, every filter in it is well coded, and some filter of it fits no packet
 pub record SomeFilterUnfit (xs : List ℕ) : Type 0 where
-  pub short : length xs ≤ 255
+  pub short : length xs ≤ longest
   pub operation : SetOperation
   pub raws : List Raw
   pub framed : framedOf xs ≡ filters operation raws

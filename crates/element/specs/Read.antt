@@ -7,22 +7,17 @@ use lib.ListN.{length, set, replicate}
 use Rattle.laws.specs.Says.{pick}
 use Rattle.laws.specs.Lists.{every, repeats}
 use Rattle.filter.specs.declared.component.Filter.{Filter}
-use Rattle.filter.specs.Build.{bare as bareFilter}
+use Rattle.filter.specs.Sizes.{placeCount}
+use Rattle.filter.specs.Build.{bare as bareFilter, emptyFilter}
 use Rattle.filter.specs.Fittable.{fittable}
 use Rattle.element.specs.declared.answer.SetOperation.{SetOperation}
 use Rattle.element.specs.declared.answer.Cause.{Cause, the-variants.Operation, the-variants.Semantics, the-variants.Coding}
 use Rattle.element.specs.declared.answer.Answer.{Answer, the-variants.Filters, the-variants.Identifiers, the-variants.Bare, the-variants.Refused}
 use Rattle.element.specs.declared.answer.Element.{Element}
 use Rattle.element.specs.declared.contents.Coded.{Coded, the-variants.Badly, the-variants.Well}
+use Rattle.element.specs.Head.{longest}
 use Rattle.element.specs.Contents.{contentsOf}
 use Rattle.element.specs.Framing.{Raw, identifierOf, directionOf, Framed, notFramed, filters, identifiers, bare, framedOf}
-
--- "a filter with identifier n stands in place n", of 16 places
-abbrev pub placeCount : ℕ
-placeCount = 16
-
-abbrev pub emptyFilter : Filter
-emptyFilter = bareFilter 0 0
 
 unfoldable pub noFilters : List Filter
 noFilters = replicate placeCount emptyFilter
@@ -101,4 +96,4 @@ readValue xs = judgedFrame (framedOf xs)
 
 -- "The value is 1 to 255 octets."
 unfoldable pub readElement : List ℕ → Element
-readElement xs = pick (leb (length xs) 255) (readValue xs) (refused Operation)
+readElement xs = pick (leb (length xs) longest) (readValue xs) (refused Operation)

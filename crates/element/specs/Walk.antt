@@ -20,6 +20,7 @@ use Rattle.filter.specs.declared.component.Class.the-variants.{Absent as noClas
 use Rattle.filter.specs.declared.component.Label.{Label}
 use Rattle.filter.specs.declared.component.Label.the-variants.{Absent as noLabel, Is as isLabel}
 use Rattle.filter.specs.declared.component.Filter.{Filter}
+use Rattle.filter.specs.Sizes.{precedenceCount}
 use Rattle.filter.specs.Build.{excluded, added}
 use Rattle.filter.specs.Coding.{held}
 use Rattle.filter.specs.Fittable.{fittable, placeFine}
@@ -69,9 +70,6 @@ whole (split rs rest) = true
 -- ---- the filters of a value, one after the other
 abbrev pub rawAt : List ℕ → ℕ → Raw
 rawAt s at = record { first = getD s at 0; precedence = getD s (at + 1) 0; contents = take (getD s (at + 2) 0) (drop (at + 3) s) }
-
-abbrev pub precedenceCount : ℕ
-precedenceCount = 256
 
 unfoldable pub noPrecedences : List Bool
 noPrecedences = replicate precedenceCount false

@@ -34,6 +34,7 @@ use Rattle.element.specs.declared.write.Unwritten.{Unwritten}
 use Rattle.element.specs.declared.write.Unwritten.the-variants.{NotGiven, TooLong, NoRoom}
 use Rattle.element.specs.declared.write.Written.{Written}
 use Rattle.element.specs.declared.write.Written.the-variants.{Wrote, Refused as refusedTo}
+use Rattle.element.specs.Head.{longest, create, deleteTft, add, replace, deleteFilters, noOperation}
 use Rattle.element.specs.Read.{Entry, precedenceOf}
 
 -- ---- The octets of each kind of component: its type, and its value, big-endian; none where it is absent
@@ -92,17 +93,17 @@ marksFrom i (m ∷ ms) = pick m (i ∷ marksFrom (suc i) ms) (marksFrom (suc i) 
 
 -- ---- The whole value
 abbrev pub setNumber : SetOperation → ℕ
-setNumber Create = 1
-setNumber Add = 3
-setNumber Replace = 4
+setNumber Create = create
+setNumber Add = add
+setNumber Replace = replace
 
 abbrev pub bareNumber : BareOperation → ℕ
-bareNumber DeleteTft = 2
-bareNumber NoOperation = 6
+bareNumber DeleteTft = deleteTft
+bareNumber NoOperation = noOperation
 
 abbrev pub octetsBy : Answer → List Filter → List Bool → List ℕ
 octetsBy (Filters operation) row marks = (setNumber operation * 32 + length (entriesFrom 0 row)) ∷ entriesOctets (entriesFrom 0 row)
-octetsBy Identifiers row marks = (5 * 32 + length (marksFrom 0 marks)) ∷ marksFrom 0 marks
+octetsBy Identifiers row marks = (deleteFilters * 32 + length (marksFrom 0 marks)) ∷ marksFrom 0 marks
 octetsBy (Bare operation) row marks = (bareNumber operation * 32) ∷ []
 octetsBy (Refused refusal) row marks = []
 
@@ -148,4 +149,4 @@ writtenBy true true false e buffer = leaves NoRoom buffer
 writtenBy true true true e buffer = wrote (octetsOf e) buffer
 
 unfoldable pub writeOf : Element → List ℕ → WriteOutcome
-writeOf e buffer = writtenBy (given e) (leb (length (octetsOf e)) 255) (leb (length (octetsOf e)) (length buffer)) e buffer
+writeOf e buffer = writtenBy (given e) (leb (length (octetsOf e)) longest) (leb (length (octetsOf e)) (length buffer)) e buffer

@@ -4,8 +4,7 @@ ghost use mathlib.Core.List.{List};
 ghost use Rattle.element.specs.Numbers.{numberOf};
 ghost use Rattle.element.specs.Read.{withoutSets, refused};
 use filter::Filter;
-
-pub const PLACES: usize = 16;
+use filter::component::PLACES;
 
 pub enum SetOperation {
     Create,

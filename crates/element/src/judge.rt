@@ -9,16 +9,15 @@ ghost use Rattle.element.specs.Walk.{rawAt, whole, judgeStart, judgedWit
 use crate::answer::Answer;
 use crate::answer::Cause;
 use crate::answer::Element;
-use crate::answer::PLACES;
 use crate::answer::SetOperation;
 use crate::answer::refuse;
 use crate::contents::Coded;
 use crate::contents::read_contents;
 use crate::octets::wide;
 use filter::Filter;
+use filter::component::PLACES;
+use filter::component::PRECEDENCES;
 use filter::sample::fittable;
-
-pub const PRECEDENCES: usize = 256;
 
 // The filters so far by identifier, the identifiers and precedences seen, and what was found wrong.
 pub struct Judged {

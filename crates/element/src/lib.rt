@@ -4,6 +4,7 @@ mod contents;
 pub mod entries;
 mod fields;
 mod framing;
+pub mod head;
 mod judge;
 mod lengths;
 mod octets;

@@ -9,7 +9,6 @@ use crate::answer::Answer;
 use crate::answer::BareOperation;
 use crate::answer::Cause;
 use crate::answer::Element;
-use crate::answer::PLACES;
 use crate::answer::SetOperation;
 use crate::answer::number;
 use crate::answer::refuse;
@@ -17,12 +16,12 @@ use crate::answer::without_sets;
 use crate::framing::Place;
 use crate::framing::entries_end;
 use crate::framing::rest_fits;
+use crate::head::LONGEST;
 use crate::judge::judge_all;
 use crate::judge::verdict;
 use crate::octets::wide;
 use filter::Filter;
-
-const LONGEST: usize = 255;
+use filter::component::PLACES;
 
 fn read_set(operation: SetOperation, e: u8, n: u8, s: &[u8]) -> Element
     ensures { λ r. ⌜ r ≡ judgedFrame (framedSet operation e n (now (s .entry))) ⌝ }

@@ -3,11 +3,11 @@ ghost use mathlib.Core.Path.{_≡_};
 ghost use Prim.Native.Nat.{_<_};
 ghost use Rattle.element.specs.Write.{rowGiven};
 ghost use Rattle.element.specs.Walk.{surveyStart, surveyed};
-use crate::answer::PLACES;
-use crate::judge::PRECEDENCES;
 use crate::octets::wide;
 use filter::Filter;
 use filter::coding::held;
+use filter::component::PLACES;
+use filter::component::PRECEDENCES;
 use filter::sample::place_fine;
 
 // Of the places so far: how many hold a filter, whether the reader could give each, and the precedences seen.

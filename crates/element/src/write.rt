@@ -15,17 +15,16 @@ ghost use Rattle.element.specs.Walk.{placeOctets, markOctets};
 use crate::answer::Answer;
 use crate::answer::BareOperation;
 use crate::answer::Element;
-use crate::answer::PLACES;
 use crate::answer::SetOperation;
 use crate::fields::contents_size;
 use crate::fields::put_contents;
+use crate::head::LONGEST;
 use crate::octets::wide;
 use crate::survey::row_given;
 use filter::Filter;
 use filter::coding::empty_place;
 use filter::coding::held;
-
-const LONGEST: usize = 255;
+use filter::component::PLACES;
 
 // 10, 11 and 9 of document 01.
 pub enum Unwritten {

@@ -54,6 +54,10 @@ bare precedence direction =
       label = noLabel;
     }
 
+-- a place that holds nothing
+abbrev pub emptyFilter : Filter
+emptyFilter = bare 0 0
+
 -- the filter with the component in its place, whatever stood there
 abbrev pub put : Component → Filter → Filter
 put (ipv4Remote address mask) f = record { precedence = f .precedence; direction = f .direction; address = V4 address mask; protocol = f .protocol; local = f .local; remote = f .remote; index = f .index; class = f .class; label = f .label }

@@ -1,3 +1,4 @@
+pub mod Sizes
 pub mod Component
 pub mod Coding
 pub mod Build

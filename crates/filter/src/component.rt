@@ -2,6 +2,10 @@
 ghost use mathlib.Core.Path.{_≡_};
 ghost use Rattle.filter.specs.Component.{addressType, protocolType, portType, indexType, classType, labelType};
 
+pub const PLACES: usize = 16;
+
+pub const PRECEDENCES: usize = 256;
+
 pub const LARGEST_LABEL: u32 = 1048575;
 
 pub const IPV4_REMOTE: u8 = 0x10;

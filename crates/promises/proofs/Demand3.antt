@@ -16,7 +16,9 @@ use Rattle.filter.specs.Coding.{held, emptyPlace}
 use Rattle.filter.specs.Fit.{validHeader}
 use Rattle.element.specs.Read.{readElement}
 use Rattle.table.specs.declared.bearer.Table.{Table}
-use Rattle.table.specs.Bearers.{bearerCount, placeCount, identityOf, emptyFilter, emptyTable, filterAt, isDefault, roleOf, connectionAt}
+use Rattle.filter.specs.Sizes.{placeCount}
+use Rattle.filter.specs.Build.{emptyFilter}
+use Rattle.table.specs.Bearers.{bearerCount, identityOf, emptyTable, filterAt, isDefault, roleOf, connectionAt}
 use Rattle.table.specs.Ranges.{BearerInRange, TableInRange}
 use Rattle.table.specs.WellFormed.{filterFine, bearerFine, transactionsApart, transactionFrom, distinctTransactions, distinctAt, distinctPrecedences, wellFormed, Held, WellFormed}
 use Rattle.table.proofs.Meaning.{well-says}

@@ -13,7 +13,7 @@ use Rattle.laws.specs.Lists.{every, isIn, repeats}
 use Rattle.laws.specs.Numbers.{sameUnder}
 use Rattle.laws.specs.Octets.{beFrom}
 use Rattle.filter.specs.declared.component.Filter.{Filter}
-use Rattle.filter.specs.Build.{Component, protocol, bare, excluded, added, built}
+use Rattle.filter.specs.Build.{Component, protocol, bare, excluded, added, built, emptyFilter}
 use Rattle.filter.specs.Coding.{held, wellCoded, emptyPlace}
 use Rattle.filter.specs.Fit.{validHeader, agreesTransport, agreesNetwork, fits}
 use Rattle.filter.specs.Fittable.{sample, fittable}
@@ -23,7 +23,7 @@ use Rattle.element.specs.Read.{noFilters, noMarks, codedOf, entriesOf, twice, l
 use Rattle.table.specs.declared.bearer.Role.{Role}
 use Rattle.table.specs.declared.bearer.Role.the-variants.{Idle, Default, Dedicated}
 use Rattle.table.specs.declared.bearer.Table.{Table}
-use Rattle.table.specs.Bearers.{emptyFilter, filterAt, build}
+use Rattle.table.specs.Bearers.{filterAt, build}
 use Rattle.table.specs.WellFormed.{filterFine, bearerFine, transactionsApart, transactionFrom, distinctTransactions, joined, rowPrecedences, connectionPrecedences, distinctAt, distinctPrecedences, wellFormed}
 use Rattle.calls.specs.declared.reply.Answer.{Answer}
 use Rattle.calls.specs.declared.reply.Answer.the-variants.{Accept, Reject, Release, Reattach, Started, Closed, Refused}
@@ -32,7 +32,8 @@ use Rattle.calls.specs.Reply.{causeNumber, refusalNumber}
 use Rattle.calls.specs.Steps.{opensAt, isOpen, closed, ofConnection, deletedIn, holdsIn, staysIn, empties}
 use Rattle.calls.specs.Lay.{old, takenBy, takes, conflict, placed, conflictIn, loses, placedIn, losesAt, frees, follows, released, followers, otherAt, onlyConnection, laidOn, laid}
 use Rattle.promises.specs.Calls.{modify, outcomeOf}
-use Rattle.calls.specs.Modify.{headFine, deleteFilters, deletedTft, modifyRead, modifyNamed, modifyOf}
+use Rattle.element.specs.Head.{headFine}
+use Rattle.calls.specs.Modify.{deleteFilters, deletedTft, modifyRead, modifyNamed, modifyOf}
 
 -- precedence 10, UDP
 abbrev udp : Filter

@@ -25,7 +25,8 @@ use Rattle.table.specs.Bearers.{roleAt, emptyTable}
 use Rattle.table.specs.WellFormed.{filterFine, bearerFine, transactionsApart, transactionFrom, distinctTransactions, joined, rowPrecedences, connectionPrecedences, distinctAt, distinctPrecedences, wellFormed}
 use Rattle.calls.specs.Steps.{opensAt, isOpen, closed, ofConnection, deletedIn, holdsIn, staysIn, empties}
 use Rattle.calls.specs.Lay.{old, takenBy, takes, conflict, placed, conflictIn, loses, placedIn, losesAt, frees, follows, released, followers, otherAt, onlyConnection, laidOn, laid}
-use Rattle.calls.specs.Modify.{headFine, deleteFilters, deletedTft, modifyRead, modifyNamed, modifyOf}
+use Rattle.element.specs.Head.{headFine}
+use Rattle.calls.specs.Modify.{deleteFilters, deletedTft, modifyRead, modifyNamed, modifyOf}
 use Rattle.calls.specs.Others.{activateDefaultOf, activateRead, activateNamed, activateDedicatedOf, deactivateOf, rejectOf, startOf}
 use Rattle.route.specs.declared.answer.Route.the-variants.{Bearer, Discard}
 use Rattle.route.specs.declared.answer.Answer.{Answer}

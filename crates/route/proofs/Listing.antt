@@ -15,33 +15,35 @@ use Rattle.laws.proofs.Says.{which, never, says-eq, says-ne}
 use Rattle.laws.proofs.Index.{walk-keeps}
 use Rattle.filter.specs.Coding.{held, uplink}
 use Rattle.table.specs.declared.bearer.Table.{Table}
-use Rattle.table.specs.Bearers.{bearerCount, placeCount, identityOf, emptyFilter, noBearer, bearerAt, filterAt, connectionAt}
+use Rattle.filter.specs.Sizes.{placeCount, precedenceCount}
+use Rattle.filter.specs.Build.{emptyFilter}
+use Rattle.table.specs.Bearers.{bearerCount, identityOf, noBearer, bearerAt, filterAt, connectionAt}
 use Rattle.table.specs.Ranges.{TableInRange}
 use Rattle.table.specs.WellFormed.{Held, WellFormed}
 use Rattle.route.specs.declared.list.Entry.{Entry}
-use Rattle.route.specs.Lists.{positionCount, isUplink, entryOf, nothing, emptyList, putFilter, putRow, putBearer, entriesOf}
+use Rattle.route.specs.Lists.{isUplink, entryOf, nothing, emptyList, putFilter, putRow, putBearer, entriesOf}
 use Rattle.route.specs.Rule.{precedenceAt, Uplink, Named, Stands}
 
-empty-length : length emptyList ≡ positionCount
+empty-length : length emptyList ≡ precedenceCount
 unfolding emptyList
 empty-length = refl
 
-empty-at : (p : ℕ) → p < positionCount → getD emptyList p nothing ≡ nothing
+empty-at : (p : ℕ) → p < precedenceCount → getD emptyList p nothing ≡ nothing
 unfolding emptyList
-empty-at p l = getD-replicate positionCount p nothing nothing l
+empty-at p l = getD-replicate precedenceCount p nothing nothing l
 
 -- the number of place j of the bearer at index i, the places counted along the rows
 abbrev number : ℕ → ℕ → ℕ
 number i j = i * placeCount + j
 
-module _ (t : Table) (default p : ℕ) (small : p < positionCount) where
+module _ (t : Table) (default p : ℕ) (small : p < precedenceCount) where
   -- the entry at p once the places numbered below n are put: it names a place, or none of them has precedence p
   record Nothing (n : ℕ) (e : Entry) : Type 0 where
     none : (i j : ℕ) → Uplink t default i j → precedenceAt t i j ≡ p → number i j < n → ⊥
     is : e ≡ nothing
 
   record Listed (n : ℕ) (es : List Entry) : Type 0 where
-    size : length es ≡ positionCount
+    size : length es ≡ precedenceCount
     stands : Named t default p (getD es p nothing) ⊎ Nothing n (getD es p nothing)
 
   -- position p may stay as it is where no place from n to m has an uplink filter of that precedence
@@ -120,7 +122,7 @@ module _ (t : Table) (default p : ℕ) (small : p < positionCount) where
   pub list-stands : Stands t default p (getD (entriesOf t default) p nothing)
   list-stands = ⊎-elim inl (λ v. inr (record { none = λ i j u q. v .none i j u q (omega arith); is = v .is })) (listed .stands)
 
-pub entries-length : (t : Table) (default : ℕ) → length (entriesOf t default) ≡ positionCount
+pub entries-length : (t : Table) (default : ℕ) → length (entriesOf t default) ≡ precedenceCount
 entries-length t default = listed t default 0 (omega arith) .size
 
 -- ---- each uplink filter is found at its precedence
@@ -134,7 +136,7 @@ same-place t w default i j k l u v =
     holds i j u = both (held (filterAt t i j)) (uplink (filterAt t i j)) (u .up) .0
 
 module _ (t : Table) (ok : TableInRange t) (default i j : ℕ) (u : Uplink t default i j) where
-  pub position : precedenceAt t i j < positionCount
+  pub position : precedenceAt t i j < precedenceCount
   position = each-at (each-at (ok .bearers) noBearer i (u .bearer) .row) emptyFilter j (u .place) .precedence
 
   pub list-at : WellFormed t → getD (entriesOf t default) (precedenceAt t i j) nothing ≡ entryOf (identityOf i) j

@@ -13,7 +13,8 @@ use Rattle.laws.proofs.Says.{which, never, says-it, says-eq, says-no, says-ne, 
 use Rattle.filter.specs.declared.packet.Header.{Header}
 use Rattle.filter.specs.Fit.{fits, validHeader}
 use Rattle.table.specs.declared.bearer.Table.{Table}
-use Rattle.table.specs.Bearers.{placeCount, indexOf, identityOf, bearerAt, filterAt, isDefault, roleOf}
+use Rattle.filter.specs.Sizes.{placeCount}
+use Rattle.table.specs.Bearers.{indexOf, identityOf, bearerAt, filterAt, isDefault, roleOf}
 use Rattle.table.specs.Ranges.{TableInRange}
 use Rattle.table.specs.WellFormed.{wellFormed, WellFormed}
 use Rattle.table.proofs.Meaning.{well-says}

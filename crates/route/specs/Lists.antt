@@ -6,16 +6,13 @@ use lib.Dec.{eqb}
 use lib.ListN.{set, replicate}
 use Rattle.laws.specs.Says.{pick}
 use Rattle.laws.specs.Index.{walk}
+use Rattle.filter.specs.Sizes.{precedenceCount, placeCount}
 use Rattle.filter.specs.declared.component.Filter.{Filter}
 use Rattle.filter.specs.Coding.{held, uplink}
 use Rattle.table.specs.declared.bearer.Table.{Table}
-use Rattle.table.specs.Bearers.{bearerCount, placeCount, identityOf, bearerAt, inRow, connectionAt}
+use Rattle.table.specs.Bearers.{bearerCount, identityOf, bearerAt, inRow, connectionAt}
 use Rattle.route.specs.declared.list.Entry.{Entry}
 use Rattle.route.specs.declared.list.OrderedList.{OrderedList}
-
--- "positions 0 to 255"
-abbrev pub positionCount : ℕ
-positionCount = 256
 
 -- a place that holds a filter, and one for the uplink
 abbrev pub isUplink : Filter → Bool
@@ -29,7 +26,7 @@ abbrev pub nothing : Entry
 nothing = entryOf 0 0
 
 unfoldable pub emptyList : List Entry
-emptyList = replicate positionCount nothing
+emptyList = replicate precedenceCount nothing
 
 -- place j of the bearer's row, at its filter's precedence
 unfoldable pub putFilter : List Filter → ℕ → List Entry → ℕ → List Entry

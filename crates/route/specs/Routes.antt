@@ -9,7 +9,8 @@ use Rattle.filter.specs.declared.component.Filter.{Filter}
 use Rattle.filter.specs.declared.packet.Header.{Header}
 use Rattle.filter.specs.Fit.{fits, validHeader}
 use Rattle.table.specs.declared.bearer.Table.{Table}
-use Rattle.table.specs.Bearers.{placeCount, indexOf, bearerAt, inRow, filterAt, isDefault, roleOf}
+use Rattle.filter.specs.Sizes.{placeCount}
+use Rattle.table.specs.Bearers.{indexOf, bearerAt, inRow, filterAt, isDefault, roleOf}
 use Rattle.table.specs.WellFormed.{wellFormed}
 use Rattle.route.specs.declared.answer.Route.{Route}
 use Rattle.route.specs.declared.answer.Route.the-variants.{Bearer, Discard}

@@ -7,7 +7,8 @@ use mathlib.Core.Logic.{_⊎_}
 use Rattle.filter.specs.declared.packet.Header.{Header}
 use Rattle.filter.specs.Fit.{fits}
 use Rattle.table.specs.declared.bearer.Table.{Table}
-use Rattle.table.specs.Bearers.{bearerCount, placeCount, indexOf, identityOf, filterAt, connectionAt}
+use Rattle.filter.specs.Sizes.{placeCount}
+use Rattle.table.specs.Bearers.{bearerCount, indexOf, identityOf, filterAt, connectionAt}
 use Rattle.route.specs.declared.answer.Route.{Route}
 use Rattle.route.specs.declared.answer.Route.the-variants.{Bearer, Discard}
 use Rattle.route.specs.declared.list.Entry.{Entry}

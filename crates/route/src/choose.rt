@@ -7,17 +7,17 @@ use crate::answer::Refusal;
 use crate::answer::Route;
 use crate::list::Entry;
 use crate::list::OrderedList;
-use crate::list::POSITIONS;
 use crate::list::is_uplink;
 use crate::list::ordered;
 use filter::Filter;
 use filter::Header;
+use filter::component::PLACES;
+use filter::component::PRECEDENCES;
 use filter::fit::fits;
 use filter::packet::valid_header;
 use table::Bearer;
 use table::Table;
 use table::bearer::BEARERS;
-use table::bearer::PLACES;
 use table::bearer::index_of;
 use table::bearer::is_default;
 use table::bearer::role_of;
@@ -58,7 +58,7 @@ fn first_fit(list: OrderedList, t: Table, header: Header, otherwise: Route) -> R
 {
     let mut p: usize = 0;
     loop {
-        if p == POSITIONS {
+        if p == PRECEDENCES {
             break otherwise;
         }
         let entry = list.entries[p];

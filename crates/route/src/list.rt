@@ -5,15 +5,13 @@ ghost use Rattle.route.specs.Lists.{isUplink, putFilter, putRow, putBear
 use filter::Filter;
 use filter::coding::held;
 use filter::coding::uplink;
+use filter::component::PLACES;
+use filter::component::PRECEDENCES;
 use table::Bearer;
 use table::Table;
 use table::bearer::BEARERS;
 use table::bearer::FIRST_IDENTITY;
-use table::bearer::PLACES;
 use table::bearer::connection_at;
-
-// One for each precedence.
-pub const POSITIONS: usize = 256;
 
 // The filter stands at `place` of the row of `bearer`. No bearer has identity 0: such an entry names nothing.
 pub struct Entry {
@@ -22,7 +20,7 @@ pub struct Entry {
 }
 
 pub struct OrderedList {
-    pub entries: [Entry; POSITIONS],
+    pub entries: [Entry; PRECEDENCES],
 }
 
 pub(crate) fn is_uplink(filter: Filter) -> bool
@@ -78,7 +76,7 @@ fn empty_list() -> OrderedList
         place: 0,
     };
     OrderedList {
-        entries: [nothing; POSITIONS],
+        entries: [nothing; PRECEDENCES],
     }
 }
 

@@ -17,12 +17,12 @@ use filter::Port;
 use filter::Protocol;
 use filter::RemoteAddress;
 use filter::coding::empty_place;
+use filter::component::PLACES;
 use table::Bearer;
 use table::Role;
 use table::Table;
 use table::bearer::BEARERS;
 use table::bearer::FIRST_IDENTITY;
-use table::bearer::PLACES;
 use table::bearer::is_idle;
 
 fn put_ipv6(out: &mut [u8], at: usize, address: Address) -> usize {

@@ -25,11 +25,11 @@ use element::Element;
 use element::Written;
 use filter::Filter;
 use filter::Header;
+use filter::component::PLACES;
 use table::Bearer;
 use table::Role;
 use table::Table;
 use table::bearer::BEARERS;
-use table::bearer::PLACES;
 
 const LARGEST_ROOM: usize = 512;
 

@@ -16,9 +16,9 @@ use element::Element;
 use element::SetOperation;
 use element::Written;
 use element::write::written_number;
+use filter::component::PLACES;
 use route::Route;
 use table::bearer::BEARERS;
-use table::bearer::PLACES;
 
 fn put_next_follow(out: &mut [u8], at: usize, wanted: bool, bearer: u8) -> usize {
     if !wanted {

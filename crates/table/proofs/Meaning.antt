@@ -18,7 +18,9 @@ use Rattle.filter.proofs.Theorems.{fittable-says}
 use Rattle.table.specs.declared.bearer.Role.{Role}
 use Rattle.table.specs.declared.bearer.Role.the-variants.{Idle, Default, Dedicated}
 use Rattle.table.specs.declared.bearer.Table.{Table}
-use Rattle.table.specs.Bearers.{firstIdentity, lastIdentity, bearerCount, placeCount, lastTransaction, inRange, indexOf, identityOf, emptyFilter, noBearer, roleAt, transactionAt, filterAt, connectionOf, connectionAt, isIdle, isDefault, isDedicated, roleOf}
+use Rattle.filter.specs.Sizes.{placeCount}
+use Rattle.filter.specs.Build.{emptyFilter}
+use Rattle.table.specs.Bearers.{firstIdentity, lastIdentity, bearerCount, lastTransaction, inRange, indexOf, identityOf, noBearer, roleAt, transactionAt, filterAt, connectionOf, connectionAt, isIdle, isDefault, isDedicated, roleOf}
 use Rattle.table.specs.Ranges.{TableInRange}
 use Rattle.table.specs.WellFormed.{linkFine, filterFine, bearerFine, transactionsApart, transactionFrom, distinctTransactions, distinctAt, distinctPrecedences, wellFormed, Held, WellFormed}
 use Rattle.table.proofs.Within.{Within, within-says}

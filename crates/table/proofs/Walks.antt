@@ -20,10 +20,12 @@ use Rattle.table.specs.declared.bearer.Role.{Role}
 use Rattle.table.specs.declared.bearer.Role.the-variants.{Idle, Default, Dedicated}
 use Rattle.table.specs.declared.bearer.Table.{Table}
 use Rattle.table.specs.declared.distinct.Marks.{Marks}
-use Rattle.table.specs.Bearers.{bearerCount, placeCount, inRange, indexOf, identityOf, emptyFilter, noBearer, inRow, bearerAt, roleAt, transactionAt, isDefault, connectionAt}
+use Rattle.filter.specs.Sizes.{placeCount, precedenceCount}
+use Rattle.filter.specs.Build.{emptyFilter}
+use Rattle.table.specs.Bearers.{bearerCount, inRange, indexOf, identityOf, noBearer, inRow, bearerAt, roleAt, transactionAt, isDefault, connectionAt}
 use Rattle.table.specs.Ranges.{TableInRange}
 use Rattle.table.specs.WellFormed.{linkFine, bearerFine, transactionsApart, transactionFrom, distinctTransactions, joined, precedenceIn, rowPrecedences, precedencesOf, connectionPrecedences, distinctAt}
-use Rattle.table.specs.Walk.{defaultAt, linkIn, bearerIn, fineAt, apartIn, apartFrom, precedenceCount, noneMarked, marked}
+use Rattle.table.specs.Walk.{defaultAt, linkIn, bearerIn, fineAt, apartIn, apartFrom, noneMarked, marked}
 use Rattle.table.proofs.Joined.{joined-all}
 use Rattle.table.proofs.Meaning.{range-says}
 

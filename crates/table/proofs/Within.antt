@@ -13,7 +13,8 @@ use Rattle.laws.proofs.Tests.{either, or-left}
 use Rattle.filter.specs.declared.component.Filter.{Filter}
 use Rattle.filter.specs.Coding.{held}
 use Rattle.table.specs.declared.bearer.Table.{Table}
-use Rattle.table.specs.Bearers.{bearerCount, placeCount, inRow, bearerAt, filterAt, connectionAt}
+use Rattle.filter.specs.Sizes.{placeCount}
+use Rattle.table.specs.Bearers.{bearerCount, inRow, bearerAt, filterAt, connectionAt}
 use Rattle.table.specs.WellFormed.{precedenceIn, rowPrecedences, precedencesOf, connectionPrecedences, Held}
 use Rattle.table.proofs.Joined.{Fresh, In, joined-in, in-joined, joined-fresh, fresh-piece, fresh-single}
 

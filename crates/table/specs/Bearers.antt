@@ -7,7 +7,8 @@ use lib.ListN.{getD, replicate}
 use Rattle.laws.specs.Says.{pick}
 use Rattle.laws.specs.Index.{tab}
 use Rattle.filter.specs.declared.component.Filter.{Filter}
-use Rattle.filter.specs.Build.{bare}
+use Rattle.filter.specs.Sizes.{placeCount}
+use Rattle.filter.specs.Build.{emptyFilter}
 use Rattle.table.specs.declared.bearer.Role.{Role}
 use Rattle.table.specs.declared.bearer.Role.the-variants.{Idle, Default, Dedicated}
 use Rattle.table.specs.declared.bearer.Bearer.{Bearer}
@@ -21,10 +22,6 @@ lastIdentity = 15
 
 abbrev pub bearerCount : ℕ
 bearerCount = 11
-
--- "The filters stand in 11 rows of 16 places"
-abbrev pub placeCount : ℕ
-placeCount = 16
 
 -- "identity 1 to 254"
 abbrev pub lastTransaction : ℕ
@@ -40,9 +37,6 @@ abbrev pub identityOf : ℕ → ℕ
 identityOf i = i + firstIdentity
 
 -- ---- what stands where: the bearer at an index, and what it holds in a place
-abbrev pub emptyFilter : Filter
-emptyFilter = bare 0 0
-
 abbrev pub noBearer : Bearer
 noBearer = record { role = Idle; transaction = 0; row = [] }
 

@@ -6,7 +6,8 @@ use Rattle.table.specs.declared.bearer.Role.{Role}
 use Rattle.table.specs.declared.bearer.Role.the-variants.{Idle, Default, Dedicated}
 use Rattle.table.specs.declared.bearer.Bearer.{Bearer}
 use Rattle.table.specs.declared.bearer.Table.{Table}
-use Rattle.table.specs.Bearers.{bearerCount, placeCount}
+use Rattle.filter.specs.Sizes.{placeCount}
+use Rattle.table.specs.Bearers.{bearerCount}
 
 abbrev pub RoleInRange : Role → Type 0
 RoleInRange Idle = Unit {0}

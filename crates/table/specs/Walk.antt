@@ -5,12 +5,13 @@ use mathlib.Core.List.{List}
 use lib.Dec.{eqb}
 use lib.ListN.{getD, set, replicate}
 use Rattle.laws.specs.Index.{imp, allBelow}
+use Rattle.filter.specs.Sizes.{precedenceCount, placeCount}
 use Rattle.table.specs.declared.bearer.Role.{Role}
 use Rattle.table.specs.declared.bearer.Role.the-variants.{Idle, Default, Dedicated}
 use Rattle.table.specs.declared.bearer.Bearer.{Bearer}
 use Rattle.table.specs.declared.bearer.Table.{Table}
 use Rattle.table.specs.declared.distinct.Marks.{Marks}
-use Rattle.table.specs.Bearers.{bearerCount, placeCount, inRange, indexOf, bearerAt, roleAt, isIdle, isDefault}
+use Rattle.table.specs.Bearers.{bearerCount, inRange, indexOf, bearerAt, roleAt, isIdle, isDefault}
 use Rattle.table.specs.WellFormed.{transactionFine, filterFine}
 
 -- ---- one bearer, by which bearers are defaults
@@ -38,9 +39,6 @@ unfoldable pub apartFrom : List ℕ → ℕ → Bool
 apartFrom xs i = allBelow (apartIn xs i) bearerCount
 
 -- ---- precedences, marked as they come
-abbrev pub precedenceCount : ℕ
-precedenceCount = 256
-
 unfoldable pub noneMarked : Marks
 noneMarked = record { seen = replicate precedenceCount false; again = false }
 

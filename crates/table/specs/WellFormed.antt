@@ -14,7 +14,9 @@ use Rattle.filter.specs.Fittable.{placeFine, SomePacketFits}
 use Rattle.table.specs.declared.bearer.Role.{Role}
 use Rattle.table.specs.declared.bearer.Role.the-variants.{Idle, Default, Dedicated}
 use Rattle.table.specs.declared.bearer.Table.{Table}
-use Rattle.table.specs.Bearers.{firstIdentity, lastIdentity, bearerCount, placeCount, lastTransaction, indexOf, identityOf, emptyFilter, bearerAt, inRow, roleAt, transactionAt, View, view, isIdle, isDefault, roleOf, connectionOf, connectionAt}
+use Rattle.filter.specs.Sizes.{placeCount}
+use Rattle.filter.specs.Build.{emptyFilter}
+use Rattle.table.specs.Bearers.{firstIdentity, lastIdentity, bearerCount, lastTransaction, indexOf, identityOf, bearerAt, inRow, roleAt, transactionAt, View, view, isIdle, isDefault, roleOf, connectionOf, connectionAt}
 
 -- ---- The test, one bearer at a time
 -- "dedicated and linked to an active default"

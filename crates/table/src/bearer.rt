@@ -3,6 +3,7 @@ ghost use mathlib.Core.Path.{_≡_};
 ghost use Prim.Native.Nat.{_-_, _≤_, _<_};
 ghost use Rattle.table.specs.Bearers.{emptyTable, isIdle, isDefault, isDedicated, inRange, indexOf, roleAt, connectionOf, connectionAt, roleOf};
 use filter::Filter;
+use filter::component::PLACES;
 
 pub const FIRST_IDENTITY: u8 = 5;
 
@@ -10,7 +11,7 @@ pub const LAST_IDENTITY: u8 = 15;
 
 pub const BEARERS: usize = 11;
 
-pub const PLACES: usize = 16;
+pub const LAST_TRANSACTION: u8 = 254;
 
 // A dedicated bearer is linked to the default with that identity.
 pub enum Role {

@@ -6,14 +6,13 @@ ghost use Rattle.table.specs.WellFormed.{rowPrecedences, connectionPrece
 ghost use Rattle.table.specs.Walk.{noneMarked, marked};
 use crate::bearer::BEARERS;
 use crate::bearer::FIRST_IDENTITY;
-use crate::bearer::PLACES;
 use crate::bearer::Table;
 use crate::bearer::connection_of;
 use crate::bearer::is_default;
 use filter::Filter;
 use filter::coding::held;
-
-const PRECEDENCES: usize = 256;
+use filter::component::PLACES;
+use filter::component::PRECEDENCES;
 
 // The precedences seen so far, and whether one of them was seen twice.
 pub struct Marks {

@@ -10,7 +10,7 @@ ghost use Rattle.table.specs.WellFormed.{transactionFine, filterFine, we
 ghost use Rattle.table.specs.Walk.{defaultAt, linkIn, bearerIn, fineAt, apartFrom};
 use crate::bearer::BEARERS;
 use crate::bearer::Bearer;
-use crate::bearer::PLACES;
+use crate::bearer::LAST_TRANSACTION;
 use crate::bearer::Role;
 use crate::bearer::Table;
 use crate::bearer::in_range;
@@ -21,9 +21,8 @@ use crate::distinct::distinct_precedences;
 use filter::Filter;
 use filter::coding::empty_place;
 use filter::coding::held;
+use filter::component::PLACES;
 use filter::sample::place_fine;
-
-const LAST_TRANSACTION: u8 = 254;
 
 fn defaults(t: Table) -> [bool; BEARERS]
     ensures { λ r. ⌜ r ≡ tab (defaultAt t) 11 ⌝ }

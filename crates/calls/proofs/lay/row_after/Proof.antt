@@ -5,7 +5,8 @@ use Prim.Native.Nat.{_≤_, _-_}
 use native.Mathlib.Omega.{arith}
 use Rattle.laws.proofs.Index.{stored, stored-start, stored-more, stored-done}
 use Rattle.laws.proofs.Typed.{each-at}
-use Rattle.table.specs.Bearers.{emptyFilter, inRow}
+use Rattle.filter.specs.Build.{emptyFilter}
+use Rattle.table.specs.Bearers.{inRow}
 use Rattle.calls.specs.Lay.{placedIn}
 use Rattle.calls.proofs.Conflicts.{took-is, placed-by}
 use Rattle.calls.proofs.Typed.{row-in-range}

@@ -7,7 +7,8 @@ use native.Mathlib.Omega.{arith}
 use Rattle.laws.specs.Index.{anyBelow}
 use Rattle.laws.proofs.Index.{any-start, any-more, done}
 use Rattle.laws.proofs.Typed.{each-at}
-use Rattle.table.specs.Bearers.{emptyFilter, inRow}
+use Rattle.filter.specs.Build.{emptyFilter}
+use Rattle.table.specs.Bearers.{inRow}
 use Rattle.calls.specs.Lay.{conflictIn, loses}
 use Rattle.calls.proofs.Conflicts.{took-is, conflict-old}
 use Rattle.calls.proofs.Typed.{row-in-range}

@@ -6,7 +6,7 @@ use native.Mathlib.Omega.{arith}
 use Rattle.laws.specs.Index.{tab}
 use Rattle.laws.proofs.Index.{done}
 use Rattle.laws.proofs.Typed.{each-at}
-use Rattle.table.specs.Bearers.{emptyFilter}
+use Rattle.filter.specs.Build.{emptyFilter}
 use Rattle.calls.proofs.Conflicts.{takenBelow, taken-start, taken-more, taken-done}
 use Rattle.calls.proofs.Typed.{row-in-range}
 use borrow.Author.Needs.{needs}

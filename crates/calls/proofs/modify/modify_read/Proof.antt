@@ -4,7 +4,8 @@ use mathlib.Core.Path.{_≡_, sym, _∙_}
 use mathlib.Core.Bool.{_&&_}
 use lib.Dec.{eqb}
 use Rattle.table.specs.Bearers.{isDedicated, roleOf}
-use Rattle.calls.specs.Modify.{operationOf, modifyRead}
+use Rattle.element.specs.Head.{operationOf}
+use Rattle.calls.specs.Modify.{modifyRead}
 use borrow.Author.Needs.{needs}
 use Rattle.calls.proofs.modify.modify_read.Statement.{statement}
 use Rattle.calls.proofs.modify.modify_read.Tie as tie

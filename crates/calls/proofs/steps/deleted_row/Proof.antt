@@ -5,7 +5,7 @@ use mathlib.Core.Bool.{true}
 use Prim.Native.Nat.{_≤_, _-_}
 use native.Mathlib.Omega.{arith}
 use Rattle.laws.proofs.Index.{stored, stored-start, stored-more, stored-done}
-use Rattle.table.specs.Bearers.{emptyFilter}
+use Rattle.filter.specs.Build.{emptyFilter}
 use Rattle.calls.specs.Steps.{deletedIn}
 use Rattle.calls.proofs.Typed.{row-in-range}
 use borrow.Author.Needs.{needs}

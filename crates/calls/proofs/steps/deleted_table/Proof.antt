@@ -17,7 +17,8 @@ use Rattle.laws.specs.Index.{tab}
 use Rattle.laws.proofs.Index.{tab-is}
 use Rattle.laws.proofs.Typed.{each-at}
 use Rattle.filter.specs.declared.component.Filter.{Filter}
-use Rattle.table.specs.Bearers.{noBearer, emptyFilter}
+use Rattle.filter.specs.Build.{emptyFilter}
+use Rattle.table.specs.Bearers.{noBearer}
 use Rattle.calls.specs.Steps.{deletedIn, deletedView}
 use Rattle.calls.proofs.Rows.{bearerWith, Beside, store-one, store-past}
 use borrow.Author.Needs.{needs}

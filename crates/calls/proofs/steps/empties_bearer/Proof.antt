@@ -7,7 +7,8 @@ use lib.ListN.{List·getD-eq-default}
 use Rattle.laws.specs.Index.{anyBelow}
 use Rattle.filter.specs.Coding.{held}
 use Rattle.table.specs.declared.bearer.Bearer.{Bearer}
-use Rattle.table.specs.Bearers.{noBearer, placeCount}
+use Rattle.filter.specs.Sizes.{placeCount}
+use Rattle.table.specs.Bearers.{noBearer}
 use Rattle.table.proofs.Typed.{table-in-range}
 use Rattle.calls.specs.Steps.{holdsIn, staysIn, empties}
 use borrow.Author.Needs.{needs}

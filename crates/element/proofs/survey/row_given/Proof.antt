@@ -7,7 +7,7 @@ use native.Mathlib.Omega.{arith}
 use lib.ListN.{drop, getD}
 use Rattle.laws.specs.Lists.{fold}
 use Rattle.laws.proofs.Loops.{fold-more, fold-done}
-use Rattle.element.specs.Read.{emptyFilter}
+use Rattle.filter.specs.Build.{emptyFilter}
 use Rattle.element.specs.Walk.{surveyStart, surveyed}
 use Rattle.element.proofs.Typed.{row-in-range}
 use Rattle.element.proofs.Surveys.{survey-more, survey-row}

@@ -8,7 +8,7 @@ use lib.ListN.{length, drop, getD}
 use Rattle.laws.specs.Says.{pick}
 use Rattle.laws.proofs.Loops.{places-end, size-next}
 use Rattle.filter.specs.Coding.{held}
-use Rattle.element.specs.Read.{emptyFilter}
+use Rattle.filter.specs.Build.{emptyFilter}
 use Rattle.element.specs.Write.{entriesFrom}
 use Rattle.element.proofs.Typed.{row-in-range}
 use Rattle.element.proofs.Rows.{entryAt, entries-by-places, one-long, one-small}

@@ -9,7 +9,7 @@ use lib.ListN.{drop}
 use Rattle.laws.specs.Lists.{every}
 use Rattle.laws.proofs.Loops.{every-more, every-done}
 use Rattle.filter.specs.Coding.{emptyPlace}
-use Rattle.element.specs.Read.{emptyFilter}
+use Rattle.filter.specs.Build.{emptyFilter}
 use Rattle.element.proofs.Typed.{row-in-range}
 use borrow.Author.Needs.{needs}
 use Rattle.element.proofs.write.no_filters.Statement.{statement}

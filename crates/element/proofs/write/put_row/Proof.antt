@@ -7,7 +7,7 @@ use native.Mathlib.Omega.{arith}
 use lib.ListN.{getD}
 use Rattle.laws.proofs.Loops.{every-at, Stored, stored-room, stored-next, stored-done}
 use Rattle.filter.specs.Fittable.{placeFine}
-use Rattle.element.specs.Read.{emptyFilter}
+use Rattle.filter.specs.Build.{emptyFilter}
 use Rattle.element.specs.Write.{entriesFrom, entriesOctets}
 use Rattle.element.proofs.Typed.{row-in-range}
 use Rattle.element.proofs.Rows.{octets-by-places, given-direction}

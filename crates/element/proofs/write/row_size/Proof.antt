@@ -5,7 +5,7 @@ use Prim.Native.Nat.{_+_, _-_, _*_, _≤_}
 use native.Mathlib.Omega.{arith}
 use lib.ListN.{length, drop, getD}
 use Rattle.laws.proofs.Loops.{places-end, size-next}
-use Rattle.element.specs.Read.{emptyFilter}
+use Rattle.filter.specs.Build.{emptyFilter}
 use Rattle.element.specs.Write.{entriesFrom, entriesOctets}
 use Rattle.element.proofs.Typed.{row-in-range}
 use Rattle.element.proofs.Rows.{octets-by-places, place-long}

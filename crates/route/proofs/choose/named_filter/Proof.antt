@@ -6,7 +6,8 @@ use native.Mathlib.Omega.{arith}
 use lib.ListN.{List·getD-eq-default}
 use Rattle.laws.proofs.Typed.{each-at}
 use Rattle.table.specs.declared.bearer.Bearer.{Bearer}
-use Rattle.table.specs.Bearers.{emptyFilter, noBearer, bearerAt, inRow, filterAt}
+use Rattle.filter.specs.Build.{emptyFilter}
+use Rattle.table.specs.Bearers.{noBearer, bearerAt, inRow, filterAt}
 use Rattle.table.proofs.Typed.{table-in-range}
 use Rattle.route.specs.Routes.{named}
 use borrow.Author.Needs.{needs}

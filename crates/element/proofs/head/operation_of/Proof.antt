@@ -1,12 +1,12 @@
--- `calls::modify::operation_of` meets its contract: the first octet holds it; of no octets it is 0.
+-- `element::head::operation_of` meets its contract: the first octet holds it; of no octets it is 0.
 -- Assumes nothing.
 use mathlib.Core.Path.{sym, ap}
 use Prim.Native.Nat.{ℕ, _/_}
 use native.Mathlib.Omega.{arith}
 use lib.ListN.{List·getD-eq-default}
 use borrow.Author.Needs.{needs}
-use Rattle.calls.proofs.modify.operation_of.Statement.{statement}
-use Rattle.calls.proofs.modify.operation_of.Tie as tie
+use Rattle.element.proofs.head.operation_of.Statement.{statement}
+use Rattle.element.proofs.head.operation_of.Tie as tie
 
 pub operation-of-spec : {M : Type 1} → statement M
 operation-of-spec =
