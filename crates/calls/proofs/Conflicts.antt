@@ -19,7 +19,7 @@ use Rattle.filter.specs.Coding.{held}
 use Rattle.table.specs.declared.bearer.Role.{Role}
 use Rattle.table.specs.declared.bearer.Role.the-variants.{Idle}
 use Rattle.table.specs.declared.bearer.Table.{Table}
-use Rattle.filter.specs.Sizes.{placeCount}
+use Rattle.filter.specs.Sizes.{placeCount, precedenceCount}
 use Rattle.filter.specs.Build.{emptyFilter}
 use Rattle.table.specs.Bearers.{bearerCount, inRow, roleAt, bearerAt, identityOf, isDefault, isDedicated}
 use Rattle.calls.specs.Steps.{ofConnection}
@@ -52,23 +52,23 @@ any-no p (suc n) i l e =
 abbrev pub takenBelow : List Filter → ℕ → ℕ → Bool
 takenBelow new j p = anyBelow (takenBy new p) j
 
-pub taken-start : (new : List Filter) → replicate 256 false ≡ tab (takenBelow new 0) 256
+pub taken-start : (new : List Filter) → replicate precedenceCount false ≡ tab (takenBelow new 0) precedenceCount
 unfolding anyBelow
-taken-start new = tab-is false (takenBelow new 0) (replicate 256 false) 256 (length-replicate 256 false) (λ i l. getD-replicate 256 i false false l)
+taken-start new = tab-is false (takenBelow new 0) (replicate precedenceCount false) precedenceCount (length-replicate precedenceCount false) (λ i l. getD-replicate precedenceCount i false false l)
 
 -- the filter at j marks its precedence q
-pub taken-more : (new : List Filter) (j q : ℕ) (ms : List Bool) (h : Bool) → q < 256 → q ≡ inRow new j .precedence → h ≡ held (inRow new j)
-    → ms ≡ tab (takenBelow new j) 256 → set ms q (getD ms q false || h) ≡ tab (takenBelow new (j + 1)) 256
+pub taken-more : (new : List Filter) (j q : ℕ) (ms : List Bool) (h : Bool) → q < precedenceCount → q ≡ inRow new j .precedence → h ≡ held (inRow new j)
+    → ms ≡ tab (takenBelow new j) precedenceCount → set ms q (getD ms q false || h) ≡ tab (takenBelow new (j + 1)) precedenceCount
 unfolding anyBelow takenBy
 taken-more new j q ms h l eq eh e =
-    next (λ (j : ℕ). tab (takenBelow new j) 256) j (set ms q (getD ms q false || h))
-    (tab-is false (takenBelow new (suc j)) (set ms q (getD ms q false || h)) 256 (length-set ms q _ ∙ long) at)
+    next (λ (j : ℕ). tab (takenBelow new j) precedenceCount) j (set ms q (getD ms q false || h))
+    (tab-is false (takenBelow new (suc j)) (set ms q (getD ms q false || h)) precedenceCount (length-set ms q _ ∙ long) at)
   where
-    long : length ms ≡ 256
-    long = ap length e ∙ tab-length (takenBelow new j) 256
+    long : length ms ≡ precedenceCount
+    long = ap length e ∙ tab-length (takenBelow new j) precedenceCount
 
-    was : (p : ℕ) → p < 256 → getD ms p false ≡ takenBelow new j p
-    was p m = ap (λ (ms : List Bool). getD ms p false) e ∙ tab-at (takenBelow new j) 256 p false m
+    was : (p : ℕ) → p < precedenceCount → getD ms p false ≡ takenBelow new j p
+    was p m = ap (λ (ms : List Bool). getD ms p false) e ∙ tab-at (takenBelow new j) precedenceCount p false m
 
     and-true : (b : Bool) → b ≡ b && true
     and-true true = refl
@@ -82,7 +82,7 @@ taken-more new j q ms h l eq eh e =
     or-false true = refl
     or-false false = refl
 
-    at : (p : ℕ) → p < 256 → getD (set ms q (getD ms q false || h)) p false ≡ takenBelow new j p || (held (inRow new j) && eqb (inRow new j .precedence) p)
+    at : (p : ℕ) → p < precedenceCount → getD (set ms q (getD ms q false || h)) p false ≡ takenBelow new j p || (held (inRow new j) && eqb (inRow new j .precedence) p)
     at p m =
         ⊎-elim
         (λ w. let same : q ≡ p = says-eq q p .to w in
@@ -95,13 +95,13 @@ taken-more new j q ms h l eq eh e =
         ∙ ap (λ (b : Bool). takenBelow new j p || b) (and-false (held (inRow new j)) ∙ ap (λ (b : Bool). held (inRow new j) && b) (sym w ∙ ap (λ (k : ℕ). eqb k p) eq)))
         (which (eqb q p))
 
-pub taken-done : (new : List Filter) → tab (takenBelow new placeCount) 256 ≡ tab (takes new) 256
+pub taken-done : (new : List Filter) → tab (takenBelow new placeCount) precedenceCount ≡ tab (takes new) precedenceCount
 unfolding takes
 taken-done new = refl
 
 -- what is read there
-pub took-is : (new : List Filter) (ms : List Bool) (p : ℕ) → p < 256 → ms ≡ tab (takes new) 256 → getD ms p false ≡ takes new p
-took-is new ms p l e = ap (λ (ms : List Bool). getD ms p false) e ∙ tab-at (takes new) 256 p false l
+pub took-is : (new : List Filter) (ms : List Bool) (p : ℕ) → p < precedenceCount → ms ≡ tab (takes new) precedenceCount → getD ms p false ≡ takes new p
+took-is new ms p l e = ap (λ (ms : List Bool). getD ms p false) e ∙ tab-at (takes new) precedenceCount p false l
 
 -- ---- one place
 pub conflict-yes : (mine h took : Bool) → mine && took ≡ true → h ≡ mine && h && took

@@ -10,7 +10,7 @@ use Rattle.laws.proofs.Index.{pad-push}
 use Rattle.table.specs.Bearers.{bearerCount}
 use Rattle.calls.specs.declared.reply.FollowUps.{FollowUps}
 use Rattle.calls.specs.Reply.{followOf}
-use Rattle.calls.specs.Lay.{noted}
+use Rattle.calls.specs.inner.Walk.{noted}
 
 abbrev follow : ℕ → List ℕ → FollowUps
 follow count bearers = record { count = count; bearers = bearers }

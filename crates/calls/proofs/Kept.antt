@@ -19,7 +19,7 @@ use Rattle.table.specs.declared.bearer.Role.the-variants.{Idle, Default, Dedica
 use Rattle.table.specs.declared.bearer.Table.{Table}
 use Rattle.filter.specs.Sizes.{placeCount}
 use Rattle.filter.specs.Build.{emptyFilter}
-use Rattle.table.specs.Bearers.{firstIdentity, lastIdentity, bearerCount, lastTransaction, inRange, indexOf, identityOf, inRow, roleAt, transactionAt, filterAt, View, view, build, isIdle, isDefault, roleOf, connectionOf, connectionAt}
+use Rattle.table.specs.Bearers.{firstIdentity, lastIdentity, bearerCount, lastTransaction, isIdentity, indexOf, identityOf, inRow, roleAt, transactionAt, filterAt, View, view, build, isIdle, isDefault, roleOf, connectionOf, connectionAt}
 use Rattle.table.specs.WellFormed.{Held, Well, WellFormed}
 use Rattle.table.proofs.Meaning.{Fine, idle-says, range-says}
 use Rattle.calls.specs.Steps.{opensAt, closedView, closed, startedView, openedView, cutView, ofConnection, isAt, droppedBy, dropped, deletedIn, deletedView}
@@ -251,7 +251,7 @@ module _ (t : Table) where
         go : (r : Role) → roleOf t bearer ≡ r → WellFormed (droppedBy r t bearer)
         go Idle e = w
         go Default e = well-built (cutView t (ofConnection t bearer)) (well-connection bearer)
-        go (Dedicated link) e = well-built (cutView t (isAt (indexOf bearer))) (well-without (indexOf bearer) link (at link (inRange bearer) e))
+        go (Dedicated link) e = well-built (cutView t (isAt (indexOf bearer))) (well-without (indexOf bearer) link (at link (isIdentity bearer) e))
 
 -- ---- filters gone
 pub well-deleted : (t : Table) → WellFormed t → (k : ℕ) (marks : List Bool) → Well (deletedView t k marks)
@@ -370,9 +370,9 @@ abbrev pub Active : Table → ℕ → Type 0
 Active t bearer = (firstIdentity ≤ bearer) × (bearer ≤ lastIdentity) × (roleAt t (indexOf bearer) ≡ Idle → ⊥)
 
 pub active-at : (t : Table) (bearer : ℕ) → isIdle (roleOf t bearer) ≡ false → Active t bearer
-active-at t bearer = go (inRange bearer) refl
+active-at t bearer = go (isIdentity bearer) refl
   where
-    go : (b : Bool) → inRange bearer ≡ b → isIdle (pick b (roleAt t (indexOf bearer)) Idle) ≡ false → Active t bearer
+    go : (b : Bool) → isIdentity bearer ≡ b → isIdle (pick b (roleAt t (indexOf bearer)) Idle) ≡ false → Active t bearer
     go true e h = let r = range-says bearer .to e in (r .0, r .1, says-ne (idle-says (roleAt t (indexOf bearer))) h)
     go false e h = never refl h
 

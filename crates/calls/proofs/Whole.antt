@@ -33,7 +33,7 @@ use Rattle.table.specs.declared.bearer.Role.the-variants.{Idle, Default, Dedica
 use Rattle.table.specs.declared.bearer.Table.{Table}
 use Rattle.filter.specs.Sizes.{placeCount}
 use Rattle.filter.specs.Build.{emptyFilter}
-use Rattle.table.specs.Bearers.{firstIdentity, lastIdentity, bearerCount, lastTransaction, inRange, indexOf, noBearer, inRow, roleAt, transactionAt, filterAt, View, view, bearerOf, build, isIdle, isDefault, isDedicated, roleOf, connectionAt}
+use Rattle.table.specs.Bearers.{firstIdentity, lastIdentity, bearerCount, lastTransaction, isIdentity, indexOf, noBearer, inRow, roleAt, transactionAt, filterAt, View, view, bearerOf, build, isIdle, isDefault, isDedicated, roleOf, connectionAt}
 use Rattle.table.specs.Ranges.{RoleInRange, BearerInRange, TableInRange}
 use Rattle.table.specs.WellFormed.{wellFormed, Well, WellFormed}
 use Rattle.table.proofs.Meaning.{Fine, idle-says, default-says, range-says, place-says, well-says}
@@ -218,16 +218,16 @@ abbrev Free : Table → ℕ → Type 0
 Free t bearer = (firstIdentity ≤ bearer) × (bearer ≤ lastIdentity) × (roleAt t (indexOf bearer) ≡ Idle)
 
 free-at : (t : Table) (bearer : ℕ) → free t bearer ≡ true → Free t bearer
-free-at t bearer = go (inRange bearer) refl
+free-at t bearer = go (isIdentity bearer) refl
   where
-    go : (b : Bool) → inRange bearer ≡ b → b && isIdle (pick b (roleAt t (indexOf bearer)) Idle) ≡ true → Free t bearer
+    go : (b : Bool) → isIdentity bearer ≡ b → b && isIdle (pick b (roleAt t (indexOf bearer)) Idle) ≡ true → Free t bearer
     go true e h = let r = range-says bearer .to e in (r .0, r .1, idle-says (roleAt t (indexOf bearer)) .to h)
     go false e h = never h refl
 
 default-at : (t : Table) (link : ℕ) → isDefault (roleOf t link) ≡ true → ActiveDefault t link
-default-at t link = go (inRange link) refl
+default-at t link = go (isIdentity link) refl
   where
-    go : (b : Bool) → inRange link ≡ b → isDefault (pick b (roleAt t (indexOf link)) Idle) ≡ true → ActiveDefault t link
+    go : (b : Bool) → isIdentity link ≡ b → isDefault (pick b (roleAt t (indexOf link)) Idle) ≡ true → ActiveDefault t link
     go true e h = let r = range-says link .to e in (r .0, r .1, default-says (roleAt t (indexOf link)) .to h)
     go false e h = never h refl
 

@@ -71,11 +71,6 @@ module _ (new : List Filter) (create : Bool) where
     unfoldable pub followers : List ℕ
     followers = picks follows identityOf bearerCount
 
--- one more in the list
-abbrev pub noted : FollowUps → Bool → ℕ → FollowUps
-noted s true bearer = record { count = s .count + 1; bearers = set (s .bearers) (s .count) bearer }
-noted s false bearer = s
-
 -- "or "detach and re-attach" where it was the only connection"
 unfoldable pub otherAt : Table → ℕ → ℕ → Bool
 otherAt t connection i = isDefault (roleAt t i) && not (eqb (identityOf i) connection)

@@ -4,3 +4,4 @@ pub mod Lay
 pub mod Modify
 pub mod Others
 pub mod Changes
+pub mod inner

@@ -11,7 +11,7 @@ use Rattle.element.specs.Head.{create, operationOf, headFine}
 use Rattle.element.specs.Read.{readElement}
 use Rattle.table.specs.declared.bearer.Role.the-variants.{Default, Dedicated}
 use Rattle.table.specs.declared.bearer.Table.{Table}
-use Rattle.table.specs.Bearers.{bearerCount, inRange, indexOf, transactionAt, build, isIdle, isDefault, roleOf}
+use Rattle.table.specs.Bearers.{bearerCount, isIdentity, indexOf, transactionAt, build, isIdle, isDefault, roleOf}
 use Rattle.table.specs.WellFormed.{wellFormed}
 use Rattle.calls.specs.declared.reply.Cause.the-variants.{TftSemantics, TftSyntax, BearerIdentity, Transaction}
 use Rattle.calls.specs.declared.reply.Refusal.the-variants.{NotOpen, NoIdentity, AlreadyOpen, NoBearer, BearerBusy}
@@ -24,7 +24,7 @@ use Rattle.calls.specs.Modify.{malformed, mismatch}
 
 -- "Default activation: 1, then 43 for an identity outside 5 to 15 or in use (house); else accept, and the bearer is a default without TFT."
 abbrev pub free : Table → ℕ → Bool
-free t bearer = inRange bearer && isIdle (roleOf t bearer)
+free t bearer = isIdentity bearer && isIdle (roleOf t bearer)
 
 unfoldable pub activateDefaultOf : Table → ℕ → Outcome
 activateDefaultOf t bearer =

@@ -57,11 +57,6 @@ ofConnection t connection i = eqb (connectionAt t i) connection
 unfoldable pub isAt : ℕ → ℕ → Bool
 isAt k i = eqb i k
 
--- what stands where a bearer may be gone
-abbrev pub cutBearer : Bool → Bearer → Bearer
-cutBearer gone b =
-    record { role = pick gone Idle (b .role); transaction = pick gone 0 (b .transaction); row = tab (λ j. pick gone emptyFilter (inRow (b .row) j)) placeCount }
-
 -- "a default takes its connection along"
 abbrev pub droppedBy : Role → Table → ℕ → Table
 droppedBy Idle t bearer = t

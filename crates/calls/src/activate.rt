@@ -19,9 +19,9 @@ use element::head::operation_of;
 use element::read::read;
 use table::Role;
 use table::Table;
-use table::bearer::in_range;
 use table::bearer::index_of;
 use table::bearer::is_default;
+use table::bearer::is_identity;
 use table::bearer::is_idle;
 use table::bearer::role_of;
 use table::well_formed::well_formed;
@@ -29,7 +29,7 @@ use table::well_formed::well_formed;
 fn is_free(t: Table, bearer: u8) -> bool
     ensures { λ r. ⌜ r ≡ free t bearer ⌝ }
 {
-    in_range(bearer) & is_idle(role_of(t, bearer))
+    is_identity(bearer) & is_idle(role_of(t, bearer))
 }
 
 pub fn activate_default(t: Table, bearer: u8) -> Outcome

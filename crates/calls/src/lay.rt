@@ -8,16 +8,17 @@ ghost use Rattle.laws.specs.Index.{anyBelow, picks, tab};
 ghost use Rattle.filter.specs.Coding.{held};
 ghost use Rattle.table.specs.declared.bearer.Role.the-variants.{Idle};
 ghost use Rattle.filter.specs.Build.{emptyFilter};
-ghost use Rattle.table.specs.Bearers.{roleAt, identityOf, isDefault, isDedicated, build};
+ghost use Rattle.table.specs.Bearers.{roleAt, identityOf, isDefault, isDedicated, build, bearerCount};
 ghost use Rattle.calls.specs.Reply.{followOf};
-ghost use Rattle.calls.specs.Lay.{takes, loses, placedIn, losesAt, laidView, noted, onlyConnection, laidOn, laid};
+ghost use Rattle.calls.specs.inner.Walk.{noted};
+ghost use Rattle.calls.specs.Lay.{takes, loses, placedIn, losesAt, laidView, onlyConnection, laidOn, laid};
+ghost use Rattle.filter.specs.Sizes.{placeCount, precedenceCount};
 use crate::reply::Answer;
 use crate::reply::FollowUps;
 use crate::reply::Outcome;
 use crate::reply::Reply;
 use crate::reply::answer_with;
 use crate::reply::none_follow;
-use crate::steps::of_connection;
 use crate::steps::without_connection;
 use filter::Filter;
 use filter::coding::held;
@@ -32,6 +33,7 @@ use table::bearer::connection_at;
 use table::bearer::index_of;
 use table::bearer::is_dedicated;
 use table::bearer::is_default;
+use table::bearer::of_connection;
 
 fn choose(b: bool, x: Filter, y: Filter) -> Filter
     ensures { λ r. ⌜ r ≡ pick b x y ⌝ }
@@ -41,7 +43,7 @@ fn choose(b: bool, x: Filter, y: Filter) -> Filter
 
 // For each precedence, whether a new filter has it.
 fn taken_by(new: [Filter; PLACES]) -> [bool; PRECEDENCES]
-    ensures { λ r. ⌜ r ≡ tab (takes new) 256 ⌝ }
+    ensures { λ r. ⌜ r ≡ tab (takes new) precedenceCount ⌝ }
 {
     let mut taken = [false; PRECEDENCES];
     for j in 0..PLACES {
@@ -83,7 +85,7 @@ fn row_loses(
     named: bool,
     row: [Filter; PLACES],
 ) -> bool
-    requires { ⌜ taken ≡ tab (takes new) 256 ⌝ }
+    requires { ⌜ taken ≡ tab (takes new) precedenceCount ⌝ }
     ensures { λ r. ⌜ r ≡ loses new create named true row ⌝ }
 {
     let mut any = false;
@@ -105,8 +107,8 @@ fn row_after(
     mine: bool,
     row: [Filter; PLACES],
 ) -> [Filter; PLACES]
-    requires { ⌜ taken ≡ tab (takes new) 256 ⌝ }
-    ensures { λ r. ⌜ r ≡ tab (placedIn new create named mine row) 16 ⌝ }
+    requires { ⌜ taken ≡ tab (takes new) precedenceCount ⌝ }
+    ensures { λ r. ⌜ r ≡ tab (placedIn new create named mine row) placeCount ⌝ }
 {
     let mut s = row;
     for j in 0..PLACES {
@@ -120,7 +122,7 @@ fn row_after(
 }
 
 fn roles_of(t: Table) -> [Role; BEARERS]
-    ensures { λ r. ⌜ r ≡ tab (roleAt t) 11 ⌝ }
+    ensures { λ r. ⌜ r ≡ tab (roleAt t) bearerCount ⌝ }
 {
     let mut roles = [Role::Idle; BEARERS];
     for i in 0..BEARERS {
@@ -141,8 +143,8 @@ fn losses(
     k: usize,
     connection: u8,
 ) -> [bool; BEARERS]
-    requires { ⌜ (taken ≡ tab (takes new) 256) × (roles ≡ tab (roleAt t) 11) ⌝ }
-    ensures { λ r. ⌜ r ≡ tab (losesAt new create t k connection) 11 ⌝ }
+    requires { ⌜ (taken ≡ tab (takes new) precedenceCount) × (roles ≡ tab (roleAt t) bearerCount) ⌝ }
+    ensures { λ r. ⌜ r ≡ tab (losesAt new create t k connection) bearerCount ⌝ }
 {
     let mut lost = [false; BEARERS];
     for i in 0..BEARERS {
@@ -157,7 +159,7 @@ fn losses(
 }
 
 fn is_released(roles: [Role; BEARERS], lost: [bool; BEARERS]) -> bool
-    ensures { λ r. ⌜ r ≡ anyBelow (λ i. isDefault (getD roles i Idle) && getD lost i false) 11 ⌝ }
+    ensures { λ r. ⌜ r ≡ anyBelow (λ i. isDefault (getD roles i Idle) && getD lost i false) bearerCount ⌝ }
 {
     let mut any = false;
     for i in 0..BEARERS {
@@ -175,8 +177,8 @@ fn laid_bearer(
     mine: bool,
     b: Bearer,
 ) -> Bearer
-    requires { ⌜ taken ≡ tab (takes new) 256 ⌝ }
-    ensures { λ r. ⌜ r ≡ record { role = b .role; transaction = b .transaction; row = tab (placedIn new create named mine (b .row)) 16 } ⌝ }
+    requires { ⌜ taken ≡ tab (takes new) precedenceCount ⌝ }
+    ensures { λ r. ⌜ r ≡ record { role = b .role; transaction = b .transaction; row = tab (placedIn new create named mine (b .row)) placeCount } ⌝ }
 {
     let role = b.role;
     let row = b.row;
@@ -197,7 +199,7 @@ fn laid_table(
     connection: u8,
     lost: [bool; BEARERS],
 ) -> Table
-    requires { ⌜ (taken ≡ tab (takes new) 256) × (lost ≡ tab (losesAt new create t k connection) 11) ⌝ }
+    requires { ⌜ (taken ≡ tab (takes new) precedenceCount) × (lost ≡ tab (losesAt new create t k connection) bearerCount) ⌝ }
     ensures { λ r. ⌜ r ≡ build (laidView new create t k connection) ⌝ }
 {
     let mut s = t;
@@ -213,7 +215,7 @@ fn laid_table(
 }
 
 fn note(s: FollowUps, follows: bool, bearer: u8) -> FollowUps
-    requires { ⌜ s .count < 11 ⌝ }
+    requires { ⌜ s .count < bearerCount ⌝ }
     ensures { λ r. ⌜ r ≡ noted s follows bearer ⌝ }
 {
     let mut f = s;
@@ -226,7 +228,7 @@ fn note(s: FollowUps, follows: bool, bearer: u8) -> FollowUps
 }
 
 fn all_follow(roles: [Role; BEARERS], lost: [bool; BEARERS]) -> FollowUps
-    ensures { λ r. ⌜ r ≡ followOf (picks (λ i. isDedicated (getD roles i Idle) && getD lost i false) identityOf 11) ⌝ }
+    ensures { λ r. ⌜ r ≡ followOf (picks (λ i. isDedicated (getD roles i Idle) && getD lost i false) identityOf bearerCount) ⌝ }
 {
     let mut s = none_follow();
     for i in 0..BEARERS {

@@ -6,8 +6,10 @@ ghost use Prim.Native.Nat.{_<_};
 ghost use Rattle.laws.specs.Says.{pick};
 ghost use Rattle.laws.specs.Index.{anyBelow, tab};
 ghost use Rattle.filter.specs.Build.{emptyFilter};
-ghost use Rattle.table.specs.Bearers.{build, connectionOf};
-ghost use Rattle.calls.specs.Steps.{opensAt, isOpen, ownerBelow, closedView, closed, startedView, openedView, cutView, ofConnection, isAt, cutBearer, dropped, deletedIn, deletedView, holdsIn, staysIn, empties};
+ghost use Rattle.table.specs.Bearers.{build, connectionOf, bearerCount};
+ghost use Rattle.calls.specs.inner.Walk.{cutBearer};
+ghost use Rattle.calls.specs.Steps.{opensAt, isOpen, ownerBelow, closedView, closed, startedView, openedView, cutView, ofConnection, isAt, dropped, deletedIn, deletedView, holdsIn, staysIn, empties};
+ghost use Rattle.filter.specs.Sizes.{placeCount};
 use filter::Filter;
 use filter::coding::held;
 use filter::component::PLACES;
@@ -18,10 +20,11 @@ use table::bearer::BEARERS;
 use table::bearer::FIRST_IDENTITY;
 use table::bearer::LAST_TRANSACTION;
 use table::bearer::index_of;
+use table::bearer::of_connection;
 use table::bearer::role_of;
 
 fn opens_any(t: Table, x: u8) -> bool
-    ensures { λ r. ⌜ r ≡ anyBelow (opensAt t x) 11 ⌝ }
+    ensures { λ r. ⌜ r ≡ anyBelow (opensAt t x) bearerCount ⌝ }
 {
     let mut any = false;
     for i in 0..BEARERS {
@@ -39,7 +42,7 @@ pub(crate) fn is_open(t: Table, x: u8) -> bool
 
 // The bearer that a transaction is open on; 0 where there is none.
 pub(crate) fn owner_of(t: Table, x: u8) -> u8
-    ensures { λ r. ⌜ r ≡ ownerBelow t x 11 ⌝ }
+    ensures { λ r. ⌜ r ≡ ownerBelow t x bearerCount ⌝ }
 {
     let mut owner: u8 = 0;
     for i in 0..BEARERS {
@@ -109,18 +112,6 @@ fn cut_bearer(gone: bool, b: Bearer) -> Bearer
     }
 }
 
-// Whether a bearer of this role at index i is of the connection.
-pub(crate) fn of_connection(i: usize, role: Role, connection: u8) -> bool
-    requires { ⌜ i < 11 ⌝ }
-    ensures { λ r. ⌜ r ≡ eqb (connectionOf i role) connection ⌝ }
-{
-    match role {
-        Role::Idle => 0 == connection,
-        Role::Default => i as u8 + FIRST_IDENTITY == connection,
-        Role::Dedicated(link) => link == connection,
-    }
-}
-
 pub(crate) fn without_connection(t: Table, connection: u8) -> Table
     ensures { λ r. ⌜ r ≡ build (cutView t (ofConnection t connection)) ⌝ }
 {
@@ -162,7 +153,7 @@ fn kept_unless(gone: bool, f: Filter) -> Filter
 }
 
 fn deleted_row(marks: [bool; PLACES], row: [Filter; PLACES]) -> [Filter; PLACES]
-    ensures { λ r. ⌜ r ≡ tab (deletedIn true marks row) 16 ⌝ }
+    ensures { λ r. ⌜ r ≡ tab (deletedIn true marks row) placeCount ⌝ }
 {
     let mut s = row;
     for j in 0..PLACES {
@@ -188,7 +179,7 @@ pub(crate) fn deleted_table(t: Table, k: usize, marks: [bool; PLACES]) -> Table
 }
 
 fn row_holds(row: [Filter; PLACES]) -> bool
-    ensures { λ r. ⌜ r ≡ anyBelow (holdsIn row) 16 ⌝ }
+    ensures { λ r. ⌜ r ≡ anyBelow (holdsIn row) placeCount ⌝ }
 {
     let mut any = false;
     for j in 0..PLACES {
@@ -199,7 +190,7 @@ fn row_holds(row: [Filter; PLACES]) -> bool
 }
 
 fn row_stays(marks: [bool; PLACES], row: [Filter; PLACES]) -> bool
-    ensures { λ r. ⌜ r ≡ anyBelow (staysIn marks row) 16 ⌝ }
+    ensures { λ r. ⌜ r ≡ anyBelow (staysIn marks row) placeCount ⌝ }
 {
     let mut any = false;
     for j in 0..PLACES {

@@ -4,3 +4,4 @@ pub mod Examples
 pub mod Samples
 pub mod Theorems
 pub mod Typed
+pub mod Ranges

@@ -30,6 +30,11 @@ module _ (p : ℕ → Bool) where
   unfolding allBelow
   all-more i b r h e = next (allBelow p) i r (h ∙ ap (λ (x : Bool). x && p i) e)
 
+  pub all-same : (q : ℕ → Bool) (n : ℕ) → ((i : ℕ) → i < n → p i ≡ q i) → allBelow p n ≡ allBelow q n
+  unfolding allBelow
+  all-same q zero h = refl
+  all-same q (suc n) h = rw (all-same q n (λ i l. h i (omega arith)), h n (omega arith))
+
   pub any-start : false ≡ anyBelow p 0
   unfolding anyBelow
   any-start = refl

@@ -1,4 +1,5 @@
 pub mod Index
+pub mod Joined
 pub mod Lists
 pub mod Loops
 pub mod Marks

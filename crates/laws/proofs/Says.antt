@@ -8,7 +8,7 @@ use native.Mathlib.Omega.{arith}
 use lib.Dec.{eqb, leb}
 use borrow.Author.Tests.{eqb-true, eq-eqb, leb-true, le-leb}
 use Rattle.laws.specs.Index.{imp, allBelow, anyBelow, SomeBelow}
-use Rattle.laws.specs.Says.{Says}
+use Rattle.laws.specs.Says.{pick, Says}
 
 -- a test is true or false
 pub which : (b : Bool) → (b ≡ true) ⊎ (b ≡ false)
@@ -19,12 +19,27 @@ pub never : {A : Type 0} {b : Bool} → b ≡ true → b ≡ false → A
 never t f = absurd (true≢false (sym t ∙ f))
 
 -- a test that says P is false exactly where P does not hold
+-- ---- what holds of the one and of the other holds of what a test picks
+module _ {A : Type 0} (P : A → Type 0) where
+  pub by-test : (b : Bool) (x y : A) → (b ≡ true → P x) → (b ≡ false → P y) → P (pick b x y)
+  by-test true x y p q = p refl
+  by-test false x y p q = q refl
+
+  pub picked : (b : Bool) (x y : A) → P x → P y → P (pick b x y)
+  picked b x y p q = by-test b x y (λ e. p) (λ e. q)
+
 pub says-no : {b : Bool} {P : Type 0} → Says b P → (P → ⊥) → b ≡ false
 says-no {b = true} s n = absurd (n (s .to refl))
 says-no {b = false} s n = refl
 
 pub says-ne : {b : Bool} {P : Type 0} → Says b P → b ≡ false → P → ⊥
 says-ne s e p = never (s .from p) e
+
+-- two tests that say the same
+pub says-same : {a b : Bool} {P : Type 0} → Says a P → Says b P → a ≡ b
+says-same {a = true} s u = sym (u .from (s .to refl))
+says-same {a = false} {b = true} s u = s .from (u .to refl)
+says-same {a = false} {b = false} s u = refl
 
 pub says-true : {P : Type 0} → P → Says true P
 says-true p = record { to = λ _. p; from = λ _. refl }

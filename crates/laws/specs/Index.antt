@@ -35,6 +35,11 @@ unfoldable pub tab : {A : Type 0} → (ℕ → A) → ℕ → List A
 tab f zero = []
 tab f (suc n) = f 0 ∷ tab (λ i. f (suc i)) n
 
+-- the pieces below n, one after the other
+unfoldable pub joined : {A : Type 0} → (ℕ → List A) → ℕ → List A
+joined piece zero = []
+joined piece (suc n) = joined piece n ++ piece n
+
 -- the first n elements, zero beyond the end
 unfoldable pub pad : ℕ → List ℕ → List ℕ
 pad zero xs = []

@@ -8,7 +8,7 @@ use Prim.Native.Nat.{ℕ}
 use lib.Dec.{eqb}
 use lib.ListN.{length, getD, take}
 use Rattle.laws.specs.Says.{pick}
-use Rattle.laws.specs.Index.{allBelow, anyBelow, picks, tab, pad}
+use Rattle.laws.specs.Index.{allBelow, anyBelow, picks, tab, pad, joined}
 use Rattle.laws.specs.Lists.{every, isIn, repeats}
 use Rattle.laws.specs.Numbers.{sameUnder}
 use Rattle.laws.specs.Octets.{beFrom}
@@ -24,7 +24,7 @@ use Rattle.table.specs.declared.bearer.Role.{Role}
 use Rattle.table.specs.declared.bearer.Role.the-variants.{Idle, Default, Dedicated}
 use Rattle.table.specs.declared.bearer.Table.{Table}
 use Rattle.table.specs.Bearers.{filterAt, build}
-use Rattle.table.specs.WellFormed.{filterFine, bearerFine, transactionsApart, transactionFrom, distinctTransactions, joined, rowPrecedences, connectionPrecedences, distinctAt, distinctPrecedences, wellFormed}
+use Rattle.table.specs.WellFormed.{filterFine, bearerFine, transactionsApart, transactionFrom, distinctTransactions, rowPrecedences, connectionPrecedences, distinctAt, distinctPrecedences, wellFormed}
 use Rattle.calls.specs.declared.reply.Answer.{Answer}
 use Rattle.calls.specs.declared.reply.Answer.the-variants.{Accept, Reject, Release, Reattach, Started, Closed, Refused}
 use Rattle.calls.specs.declared.reply.Outcome.{Outcome}

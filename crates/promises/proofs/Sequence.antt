@@ -7,7 +7,7 @@ use Prim.Native.Nat.{ℕ}
 use lib.Dec.{eqb}
 use lib.ListN.{length, getD, take}
 use Rattle.laws.specs.Says.{pick}
-use Rattle.laws.specs.Index.{allBelow, anyBelow, picks, tab, pad, walk}
+use Rattle.laws.specs.Index.{allBelow, anyBelow, picks, tab, pad, walk, joined}
 use Rattle.laws.specs.Lists.{every, isIn, repeats}
 use Rattle.laws.specs.Numbers.{sameUnder}
 use Rattle.laws.specs.Octets.{beFrom}
@@ -22,7 +22,7 @@ use Rattle.element.specs.Read.{noFilters, noMarks, codedOf, entriesOf as elemen
 use Rattle.table.specs.declared.bearer.Role.{Role}
 use Rattle.table.specs.declared.bearer.Role.the-variants.{Idle, Default, Dedicated}
 use Rattle.table.specs.Bearers.{roleAt, emptyTable}
-use Rattle.table.specs.WellFormed.{filterFine, bearerFine, transactionsApart, transactionFrom, distinctTransactions, joined, rowPrecedences, connectionPrecedences, distinctAt, distinctPrecedences, wellFormed}
+use Rattle.table.specs.WellFormed.{filterFine, bearerFine, transactionsApart, transactionFrom, distinctTransactions, rowPrecedences, connectionPrecedences, distinctAt, distinctPrecedences, wellFormed}
 use Rattle.calls.specs.Steps.{opensAt, isOpen, closed, ofConnection, deletedIn, holdsIn, staysIn, empties}
 use Rattle.calls.specs.Lay.{old, takenBy, takes, conflict, placed, conflictIn, loses, placedIn, losesAt, frees, follows, released, followers, otherAt, onlyConnection, laidOn, laid}
 use Rattle.element.specs.Head.{headFine}

@@ -24,8 +24,8 @@ use filter::Address;
 use filter::Filter;
 use filter::Header;
 use table::Role;
-use table::bearer::in_range;
 use table::bearer::index_of;
+use table::bearer::is_identity;
 
 const OCTET: u64 = 255;
 
@@ -249,7 +249,7 @@ fn parse_place(line: &[u8], s: Scan) -> Command {
     let bearer = number(line, s, OCTET);
     let plan = parse_plan(line, bearer);
     let identity = octet(bearer.value);
-    if !(plan_fine(line, plan) & in_range(identity)) {
+    if !(plan_fine(line, plan) & is_identity(identity)) {
         return Command::Bad;
     }
     Command::Place(index_of(identity), plan)
@@ -273,7 +273,7 @@ fn parse_emit(line: &[u8], s: Scan) -> Command {
 
 fn forced(line: &[u8], identity: u8, role: Role, s: Scan) -> Command {
     let transaction = number(line, s, OCTET);
-    if !(whole(line, transaction) & in_range(identity)) {
+    if !(whole(line, transaction) & is_identity(identity)) {
         return Command::Bad;
     }
     Command::Force(index_of(identity), role, octet(transaction.value))

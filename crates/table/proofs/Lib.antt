@@ -1,4 +1,3 @@
-pub mod Joined
 pub mod Meaning
 pub mod Typed
 pub mod Walks

@@ -20,7 +20,7 @@ use Rattle.table.specs.declared.bearer.Role.the-variants.{Idle, Default,
 use Rattle.table.specs.declared.bearer.Table.{Table}
 use Rattle.filter.specs.Sizes.{placeCount}
 use Rattle.filter.specs.Build.{emptyFilter}
-use Rattle.table.specs.Bearers.{firstIdentity, lastIdentity, bearerCount, lastTransaction, inRange, indexOf, identityOf, noBearer, roleAt, transactionAt, filterAt, connectionOf, connectionAt, isIdle, isDefault, isDedicated, roleOf}
+use Rattle.table.specs.Bearers.{firstIdentity, lastIdentity, bearerCount, lastTransaction, isIdentity, indexOf, identityOf, noBearer, roleAt, transactionAt, filterAt, connectionOf, connectionAt, isIdle, isDefault, isDedicated, roleOf}
 use Rattle.table.specs.Ranges.{TableInRange}
 use Rattle.table.specs.WellFormed.{linkFine, filterFine, bearerFine, transactionsApart, transactionFrom, distinctTransactions, distinctAt, distinctPrecedences, wellFormed, Held, WellFormed}
 use Rattle.table.proofs.Within.{Within, within-says}
@@ -44,7 +44,7 @@ dedicated-says Idle = record { to = λ e. absurd (false≢true e); from = λ e. 
 dedicated-says Default = record { to = λ e. absurd (false≢true e); from = λ e. let h = e .1 in unlike (cc) }
 dedicated-says (Dedicated link) = says-true (link, refl)
 
-pub range-says : (identity : ℕ) → Says (inRange identity) ((firstIdentity ≤ identity) × (identity ≤ lastIdentity))
+pub range-says : (identity : ℕ) → Says (isIdentity identity) ((firstIdentity ≤ identity) × (identity ≤ lastIdentity))
 range-says identity = says-and (says-le firstIdentity identity) (says-le identity lastIdentity)
 
 -- ---- a place
@@ -90,9 +90,9 @@ module _ (t : Table) (ok : TableInRange t) where
 
   -- an identity whose role is default is in range
   default-of : (link : ℕ) → Says (isDefault (roleOf t link)) ((firstIdentity ≤ link) × (link ≤ lastIdentity) × (roleAt t (indexOf link) ≡ Default))
-  default-of link = go (inRange link) refl
+  default-of link = go (isIdentity link) refl
     where
-      go : (b : Bool) → inRange link ≡ b → Says (isDefault (pick b (roleAt t (indexOf link)) Idle)) ((firstIdentity ≤ link) × (link ≤ lastIdentity) × (roleAt t (indexOf link) ≡ Default))
+      go : (b : Bool) → isIdentity link ≡ b → Says (isDefault (pick b (roleAt t (indexOf link)) Idle)) ((firstIdentity ≤ link) × (link ≤ lastIdentity) × (roleAt t (indexOf link) ≡ Default))
       go true e =
           let r = range-says link .to e in
           says-so (default-says (roleAt t (indexOf link))) (λ d. (r .0, r .1, d)) (λ h. h .2)

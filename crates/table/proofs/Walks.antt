@@ -7,9 +7,9 @@ use native.Mathlib.Omega.{arith}
 use lib.Dec.{eqb}
 use lib.ListN.{getD}
 use Rattle.laws.specs.Says.{pick}
-use Rattle.laws.specs.Index.{imp, allBelow, tab}
+use Rattle.laws.specs.Index.{imp, allBelow, tab, joined}
 use Rattle.laws.specs.Lists.{All, fold, repeats}
-use Rattle.laws.proofs.Index.{next, tab-at}
+use Rattle.laws.proofs.Index.{next, all-same, tab-at}
 use Rattle.laws.proofs.Marks.{again, again-repeats}
 use Rattle.laws.proofs.Typed.{each-at}
 use Rattle.filter.specs.declared.component.Filter.{Filter}
@@ -22,17 +22,12 @@ use Rattle.table.specs.declared.bearer.Table.{Table}
 use Rattle.table.specs.declared.distinct.Marks.{Marks}
 use Rattle.filter.specs.Sizes.{placeCount, precedenceCount}
 use Rattle.filter.specs.Build.{emptyFilter}
-use Rattle.table.specs.Bearers.{bearerCount, inRange, indexOf, identityOf, noBearer, inRow, bearerAt, roleAt, transactionAt, isDefault, connectionAt}
+use Rattle.table.specs.Bearers.{bearerCount, isIdentity, indexOf, identityOf, noBearer, inRow, bearerAt, roleAt, transactionAt, isDefault, connectionAt}
 use Rattle.table.specs.Ranges.{TableInRange}
-use Rattle.table.specs.WellFormed.{linkFine, bearerFine, transactionsApart, transactionFrom, distinctTransactions, joined, precedenceIn, rowPrecedences, precedencesOf, connectionPrecedences, distinctAt}
-use Rattle.table.specs.Walk.{defaultAt, linkIn, bearerIn, fineAt, apartIn, apartFrom, noneMarked, marked}
-use Rattle.table.proofs.Joined.{joined-all}
+use Rattle.table.specs.WellFormed.{linkFine, bearerFine, transactionsApart, transactionFrom, distinctTransactions, precedenceIn, rowPrecedences, precedencesOf, connectionPrecedences, distinctAt}
+use Rattle.table.specs.inner.Walk.{defaultAt, linkIn, bearerIn, fineAt, apartIn, apartFrom, noneMarked, marked}
+use Rattle.laws.proofs.Joined.{joined-all}
 use Rattle.table.proofs.Meaning.{range-says}
-
-all-same : (p q : ℕ → Bool) (n : ℕ) → ((i : ℕ) → i < n → p i ≡ q i) → allBelow p n ≡ allBelow q n
-unfolding allBelow
-all-same p q zero h = refl
-all-same p q (suc n) h = rw (all-same p q n (λ i l. h i (omega arith)), h n (omega arith))
 
 -- ---- one bearer
 -- a place that holds a filter is not empty; one that holds none is fine where it is empty
@@ -51,7 +46,7 @@ fine-empty idle f e = rw e (go idle (emptyPlace f))
     go false true = refl
     go false false = refl
 
-pub in-eleven : (identity : ℕ) → inRange identity ≡ true → indexOf identity < bearerCount
+pub in-eleven : (identity : ℕ) → isIdentity identity ≡ true → indexOf identity < bearerCount
 in-eleven identity e =
     let r = range-says identity .to e in
     let low = r .0 in
@@ -62,9 +57,9 @@ module _ (t : Table) where
   link-is : (r : Role) → linkIn (tab (defaultAt t) bearerCount) r ≡ linkFine t r
   link-is Idle = refl
   link-is Default = refl
-  link-is (Dedicated link) = go (inRange link) refl
+  link-is (Dedicated link) = go (isIdentity link) refl
     where
-      go : (b : Bool) → inRange link ≡ b → b && getD (tab (defaultAt t) bearerCount) (indexOf link) false ≡ isDefault (pick b (roleAt t (indexOf link)) Idle)
+      go : (b : Bool) → isIdentity link ≡ b → b && getD (tab (defaultAt t) bearerCount) (indexOf link) false ≡ isDefault (pick b (roleAt t (indexOf link)) Idle)
       go true e = tab-at (defaultAt t) bearerCount (indexOf link) false (in-eleven link e)
       go false e = refl
 

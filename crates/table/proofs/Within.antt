@@ -16,7 +16,7 @@ use Rattle.table.specs.declared.bearer.Table.{Table}
 use Rattle.filter.specs.Sizes.{placeCount}
 use Rattle.table.specs.Bearers.{bearerCount, inRow, bearerAt, filterAt, connectionAt}
 use Rattle.table.specs.WellFormed.{precedenceIn, rowPrecedences, precedencesOf, connectionPrecedences, Held}
-use Rattle.table.proofs.Joined.{Fresh, In, joined-in, in-joined, joined-fresh, fresh-piece, fresh-single}
+use Rattle.laws.proofs.Joined.{Fresh, In, joined-in, in-joined, joined-fresh, fresh-piece, fresh-single}
 
 fresh-not : (b : Bool) → b ≡ false → not b ≡ true
 fresh-not b e = rw e

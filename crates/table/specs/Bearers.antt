@@ -27,8 +27,8 @@ bearerCount = 11
 abbrev pub lastTransaction : ℕ
 lastTransaction = 254
 
-abbrev pub inRange : ℕ → Bool
-inRange identity = leb firstIdentity identity && leb identity lastIdentity
+abbrev pub isIdentity : ℕ → Bool
+isIdentity identity = leb firstIdentity identity && leb identity lastIdentity
 
 abbrev pub indexOf : ℕ → ℕ
 indexOf identity = identity - firstIdentity
@@ -94,13 +94,17 @@ isDedicated (Dedicated link) = true
 
 -- of an identity out of range: idle
 abbrev pub roleOf : Table → ℕ → Role
-roleOf t identity = pick (inRange identity) (roleAt t (indexOf identity)) Idle
+roleOf t identity = pick (isIdentity identity) (roleAt t (indexOf identity)) Idle
 
 -- "A default and its dedicated bearers are one PDN connection": the default's identity; 0 of an idle bearer
 abbrev pub connectionOf : ℕ → Role → ℕ
 connectionOf i Idle = 0
 connectionOf i Default = identityOf i
 connectionOf i (Dedicated link) = link
+
+-- the bearer at index i is of the connection
+abbrev pub inConnection : ℕ → ℕ → Role → Bool
+inConnection connection i role = eqb (connectionOf i role) connection
 
 abbrev pub connectionAt : Table → ℕ → ℕ
 connectionAt t i = connectionOf i (roleAt t i)

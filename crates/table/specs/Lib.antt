@@ -1,4 +1,4 @@
 pub mod Bearers
 pub mod Ranges
-pub mod Walk
 pub mod WellFormed
+pub mod inner

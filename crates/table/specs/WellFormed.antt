@@ -6,7 +6,7 @@ use mathlib.Core.Bool.{Bool, true, not, _&&_, _||_}
 use mathlib.Core.List.{List, [], _∷_, _++_}
 use lib.Dec.{eqb, leb}
 use Rattle.laws.specs.Says.{pick}
-use Rattle.laws.specs.Index.{imp, allBelow}
+use Rattle.laws.specs.Index.{imp, allBelow, joined}
 use Rattle.laws.specs.Lists.{repeats}
 use Rattle.filter.specs.declared.component.Filter.{Filter}
 use Rattle.filter.specs.Coding.{held, wellCoded, emptyPlace}
@@ -50,11 +50,6 @@ unfoldable pub distinctTransactions : Table → Bool
 distinctTransactions t = allBelow (transactionFrom t) bearerCount
 
 -- ---- one connection at a time
--- the pieces below n, one after the other
-unfoldable pub joined : (ℕ → List ℕ) → ℕ → List ℕ
-joined piece zero = []
-joined piece (suc n) = joined piece n ++ piece n
-
 -- the precedence of the filter that a place holds, if it does, and those of a row
 abbrev pub precedenceIn : List Filter → ℕ → List ℕ
 precedenceIn row j = pick (held (inRow row j)) (inRow row j .precedence ∷ []) []

@@ -1,7 +1,7 @@
 // Bearers and the table of them.
 ghost use mathlib.Core.Path.{_≡_};
 ghost use Prim.Native.Nat.{_-_, _≤_, _<_};
-ghost use Rattle.table.specs.Bearers.{emptyTable, isIdle, isDefault, isDedicated, inRange, indexOf, roleAt, connectionOf, connectionAt, roleOf};
+ghost use Rattle.table.specs.Bearers.{emptyTable, isIdle, isDefault, isDedicated, isIdentity, indexOf, roleAt, connectionOf, inConnection, connectionAt, roleOf};
 use filter::Filter;
 use filter::component::PLACES;
 
@@ -75,8 +75,8 @@ pub fn is_dedicated(role: Role) -> bool
     }
 }
 
-pub fn in_range(identity: u8) -> bool
-    ensures { λ r. ⌜ r ≡ inRange identity ⌝ }
+pub fn is_identity(identity: u8) -> bool
+    ensures { λ r. ⌜ r ≡ isIdentity identity ⌝ }
 {
     (FIRST_IDENTITY <= identity) & (identity <= LAST_IDENTITY)
 }
@@ -108,15 +108,26 @@ pub fn role_at(t: Table, i: usize) -> Role
 pub fn role_of(t: Table, identity: u8) -> Role
     ensures { λ r. ⌜ r ≡ roleOf t identity ⌝ }
 {
-    if in_range(identity) {
+    if is_identity(identity) {
         role_at(t, index_of(identity))
     } else {
         Role::Idle
     }
 }
 
+// Whether a bearer of this role at index i is of the connection.
+pub fn of_connection(i: usize, role: Role, connection: u8) -> bool
+    ensures { λ r. ⌜ r ≡ inConnection connection i role ⌝ }
+{
+    match role {
+        Role::Idle => 0 == connection,
+        Role::Default => (FIRST_IDENTITY <= connection) & (i == index_of(connection)),
+        Role::Dedicated(link) => link == connection,
+    }
+}
+
 // The connection of a bearer: its default's identity, 0 of an idle one.
-pub(crate) fn connection_of(i: usize, role: Role) -> u8
+fn connection_of(i: usize, role: Role) -> u8
     requires { ⌜ i ≤ 250 ⌝ }
     ensures { λ r. ⌜ r ≡ connectionOf i role ⌝ }
 {

@@ -3,12 +3,12 @@ ghost use mathlib.Core.Path.{_≡_};
 ghost use mathlib.Core.Bool.{not};
 ghost use Rattle.laws.specs.Lists.{fold, repeats};
 ghost use Rattle.table.specs.WellFormed.{rowPrecedences, connectionPrecedences, distinctPrecedences};
-ghost use Rattle.table.specs.Walk.{noneMarked, marked};
+ghost use Rattle.table.specs.inner.Walk.{noneMarked, marked};
 use crate::bearer::BEARERS;
 use crate::bearer::FIRST_IDENTITY;
 use crate::bearer::Table;
-use crate::bearer::connection_of;
 use crate::bearer::is_default;
+use crate::bearer::of_connection;
 use filter::Filter;
 use filter::coding::held;
 use filter::component::PLACES;
@@ -51,7 +51,7 @@ fn distinct_within(t: Table, connection: u8) -> bool
     for k in 0..BEARERS {
         let b = t.bearers[k];
         let role = b.role;
-        if connection_of(k, role) == connection {
+        if of_connection(k, role, connection) {
             let row = b.row;
             marks = mark_row(marks, row);
         }
@@ -59,7 +59,7 @@ fn distinct_within(t: Table, connection: u8) -> bool
     !marks.again
 }
 
-pub fn distinct_precedences(t: Table) -> bool
+pub(crate) fn distinct_precedences(t: Table) -> bool
     ensures { λ r. ⌜ r ≡ distinctPrecedences t ⌝ }
 {
     let mut all = true;

@@ -1,6 +1,6 @@
 // The bearers of a module, their connections and transactions, and whether a table of them is well formed.
 pub mod bearer;
-pub mod distinct;
+mod distinct;
 pub mod well_formed;
 
 pub use bearer::Bearer;

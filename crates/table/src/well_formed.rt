@@ -5,17 +5,18 @@ ghost use Prim.Native.Nat.{_<_};
 ghost use Rattle.laws.specs.Index.{imp, allBelow, tab};
 ghost use Rattle.filter.specs.Coding.{emptyPlace};
 ghost use Rattle.filter.specs.Fittable.{placeFine};
-ghost use Rattle.table.specs.Bearers.{transactionAt};
+ghost use Rattle.table.specs.Bearers.{transactionAt, bearerCount};
 ghost use Rattle.table.specs.WellFormed.{transactionFine, filterFine, wellFormed};
-ghost use Rattle.table.specs.Walk.{defaultAt, linkIn, bearerIn, fineAt, apartFrom};
+ghost use Rattle.table.specs.inner.Walk.{defaultAt, linkIn, bearerIn, fineAt, apartFrom};
+ghost use Rattle.filter.specs.Sizes.{placeCount};
 use crate::bearer::BEARERS;
 use crate::bearer::Bearer;
 use crate::bearer::LAST_TRANSACTION;
 use crate::bearer::Role;
 use crate::bearer::Table;
-use crate::bearer::in_range;
 use crate::bearer::index_of;
 use crate::bearer::is_default;
+use crate::bearer::is_identity;
 use crate::bearer::is_idle;
 use crate::distinct::distinct_precedences;
 use filter::Filter;
@@ -25,7 +26,7 @@ use filter::component::PLACES;
 use filter::sample::place_fine;
 
 fn defaults(t: Table) -> [bool; BEARERS]
-    ensures { λ r. ⌜ r ≡ tab (defaultAt t) 11 ⌝ }
+    ensures { λ r. ⌜ r ≡ tab (defaultAt t) bearerCount ⌝ }
 {
     let mut all = [false; BEARERS];
     for i in 0..BEARERS {
@@ -43,7 +44,7 @@ fn link_fine(defaults: [bool; BEARERS], role: Role) -> bool
         Role::Idle => true,
         Role::Default => true,
         Role::Dedicated(link) => {
-            if in_range(link) {
+            if is_identity(link) {
                 defaults[index_of(link)]
             } else {
                 false
@@ -70,7 +71,7 @@ fn filter_fine(idle: bool, f: Filter) -> bool
 }
 
 fn row_fine(idle: bool, row: [Filter; PLACES]) -> bool
-    ensures { λ r. ⌜ r ≡ allBelow (filterFine idle row) 16 ⌝ }
+    ensures { λ r. ⌜ r ≡ allBelow (filterFine idle row) placeCount ⌝ }
 {
     let mut all = true;
     for j in 0..PLACES {
@@ -90,7 +91,7 @@ fn bearer_fine(defaults: [bool; BEARERS], b: Bearer) -> bool
 }
 
 fn bearers_fine(t: Table, links: [bool; BEARERS]) -> bool
-    ensures { λ r. ⌜ r ≡ allBelow (fineAt links t) 11 ⌝ }
+    ensures { λ r. ⌜ r ≡ allBelow (fineAt links t) bearerCount ⌝ }
 {
     let mut all = true;
     for i in 0..BEARERS {
@@ -101,7 +102,7 @@ fn bearers_fine(t: Table, links: [bool; BEARERS]) -> bool
 }
 
 fn transactions(t: Table) -> [u8; BEARERS]
-    ensures { λ r. ⌜ r ≡ tab (transactionAt t) 11 ⌝ }
+    ensures { λ r. ⌜ r ≡ tab (transactionAt t) bearerCount ⌝ }
 {
     let mut all = [0; BEARERS];
     for i in 0..BEARERS {
@@ -112,7 +113,7 @@ fn transactions(t: Table) -> [u8; BEARERS]
 }
 
 fn transaction_from(xs: [u8; BEARERS], i: usize) -> bool
-    requires { ⌜ i < 11 ⌝ }
+    requires { ⌜ i < bearerCount ⌝ }
     ensures { λ r. ⌜ r ≡ apartFrom xs i ⌝ }
 {
     let mut all = true;
@@ -123,7 +124,7 @@ fn transaction_from(xs: [u8; BEARERS], i: usize) -> bool
 }
 
 fn distinct_transactions(xs: [u8; BEARERS]) -> bool
-    ensures { λ r. ⌜ r ≡ allBelow (apartFrom xs) 11 ⌝ }
+    ensures { λ r. ⌜ r ≡ allBelow (apartFrom xs) bearerCount ⌝ }
 {
     let mut all = true;
     for i in 0..BEARERS {

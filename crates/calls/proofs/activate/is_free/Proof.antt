@@ -11,4 +11,4 @@ is-free-spec =
     (λ c κs. search needs)
     (λ c κs. search needs)
     (λ c κs. search needs)
-    (λ c. rw (c .before .before .in-range .ensures, c .is-idle .ensures, c .before .role-of .ensures)))
+    (λ c. rw (c .before .before .is-identity .ensures, c .is-idle .ensures, c .before .role-of .ensures)))

@@ -10,10 +10,10 @@ use Rattle.laws.specs.Index.{picks}
 use Rattle.laws.proofs.Index.{picks-start, picks-more, picks-le, done}
 use Rattle.table.specs.declared.bearer.Role.{Role}
 use Rattle.table.specs.declared.bearer.Role.the-variants.{Idle}
-use Rattle.table.specs.Bearers.{isDedicated, identityOf}
+use Rattle.table.specs.Bearers.{isDedicated, identityOf, bearerCount}
 use Rattle.calls.specs.declared.reply.FollowUps.{FollowUps}
 use Rattle.calls.specs.Reply.{followOf}
-use Rattle.calls.specs.Lay.{noted}
+use Rattle.calls.specs.inner.Walk.{noted}
 use Rattle.calls.proofs.Followers.{noted-more}
 use borrow.Author.Needs.{needs}
 use Rattle.calls.proofs.lay.all_follow.Statement.{statement}
@@ -23,10 +23,10 @@ abbrev told : List Role → List Bool → ℕ → Bool
 told roles lost i = isDedicated (getD roles i Idle) && getD lost i false
 
 abbrev Inv-loop : tie.InvT-loop
-Inv-loop roles lost s₀ i₀ s i = (i ≤ 11) × (s ≡ followOf (picks (told roles lost) identityOf i))
+Inv-loop roles lost s₀ i₀ s i = (i ≤ bearerCount) × (s ≡ followOf (picks (told roles lost) identityOf i))
 
 abbrev μ-loop : tie.MeasureT-loop
-μ-loop roles lost s₀ i₀ s i = 11 - i
+μ-loop roles lost s₀ i₀ s i = bearerCount - i
 
 loop-holds : tie.Need-loop-holds Inv-loop μ-loop
 loop-holds c =
@@ -53,7 +53,7 @@ returns : tie.Need-returns Inv-loop μ-loop
 returns c =
     let a = c .before .before .before .args in
     let l = c .before .loop in
-    done (λ (n : ℕ). followOf (picks (told (a .t1) (a .t2)) identityOf n)) (l .i) 11 _ (omega arith) (omega arith) (l .inv .1)
+    done (λ (n : ℕ). followOf (picks (told (a .t1) (a .t2)) identityOf n)) (l .i) bearerCount _ (omega arith) (omega arith) (l .inv .1)
 
 pub all-follow-spec : {M : Type 1} → statement M
 all-follow-spec =

@@ -10,7 +10,7 @@ use Rattle.laws.specs.Index.{anyBelow}
 use Rattle.laws.proofs.Index.{any-start, any-more, done}
 use Rattle.table.specs.declared.bearer.Role.{Role}
 use Rattle.table.specs.declared.bearer.Role.the-variants.{Idle}
-use Rattle.table.specs.Bearers.{isDefault}
+use Rattle.table.specs.Bearers.{isDefault, bearerCount}
 use borrow.Author.Needs.{needs}
 use Rattle.calls.proofs.lay.is_released.Statement.{statement}
 use Rattle.calls.proofs.lay.is_released.Tie as tie
@@ -19,10 +19,10 @@ abbrev freed : List Role → List Bool → ℕ → Bool
 freed roles lost i = isDefault (getD roles i Idle) && getD lost i false
 
 abbrev Inv-loop : tie.InvT-loop
-Inv-loop roles lost any₀ i₀ any i = (i ≤ 11) × (any ≡ anyBelow (freed roles lost) i)
+Inv-loop roles lost any₀ i₀ any i = (i ≤ bearerCount) × (any ≡ anyBelow (freed roles lost) i)
 
 abbrev μ-loop : tie.MeasureT-loop
-μ-loop roles lost any₀ i₀ any i = 11 - i
+μ-loop roles lost any₀ i₀ any i = bearerCount - i
 
 loop-holds : tie.Need-loop-holds Inv-loop μ-loop
 loop-holds c = (omega arith, any-start (freed (c .args .t1) (c .args .t2)))
@@ -39,7 +39,7 @@ returns : tie.Need-returns Inv-loop μ-loop
 returns c =
     let a = c .before .before .args in
     let l = c .before .loop in
-    done (anyBelow (freed (a .t1) (a .t2))) (l .i) 11 _ (omega arith) (omega arith) (l .inv .1)
+    done (anyBelow (freed (a .t1) (a .t2))) (l .i) bearerCount _ (omega arith) (omega arith) (l .inv .1)
 
 pub is-released-spec : {M : Type 1} → statement M
 is-released-spec =

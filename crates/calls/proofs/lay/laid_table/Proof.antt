@@ -13,9 +13,10 @@ use Rattle.laws.proofs.Typed.{each-at}
 use Rattle.filter.specs.declared.component.Filter.{Filter}
 use Rattle.table.specs.declared.bearer.Bearer.{Bearer}
 use Rattle.table.specs.declared.bearer.Table.{Table}
-use Rattle.table.specs.Bearers.{noBearer, bearerAt, bearerOf, roleAt, transactionAt}
+use Rattle.table.specs.Bearers.{noBearer, bearerAt, bearerOf, roleAt, transactionAt, bearerCount}
 use Rattle.table.specs.Ranges.{TableInRange}
 use Rattle.table.proofs.Typed.{table-in-range}
+use Rattle.filter.specs.Sizes.{placeCount}
 use Rattle.calls.specs.Steps.{ofConnection}
 use Rattle.calls.specs.Lay.{losesAt, loses, placedIn, laidView}
 use Rattle.calls.proofs.Rows.{bearerWith, Stored, store-start, store-more, store-skip, store-done}
@@ -27,12 +28,12 @@ use Rattle.calls.proofs.lay.laid_table.Tie as tie
 module _ (new : List Filter) (create : Bool) (t : Table) (k connection i : ℕ) where
   -- what is laid there, `mine` being whether the bearer is of the connection
   abbrev laidAt : Bool → Bearer
-  laidAt mine = bearerWith (roleAt t i) (transactionAt t i) (tab (placedIn new create (eqb i k) mine (bearerAt t i .row)) 16)
+  laidAt mine = bearerWith (roleAt t i) (transactionAt t i) (tab (placedIn new create (eqb i k) mine (bearerAt t i .row)) placeCount)
 
   changes : (b : Bearer) (mine : Bool) → mine ≡ ofConnection t connection i → b ≡ laidAt mine → b ≡ bearerOf (laidView new create t k connection) i
   changes b mine m e = e ∙ ap laidAt m
 
-  stays : (lost : List Bool) → lost ≡ tab (losesAt new create t k connection) 11 → TableInRange t → i < 11 → eqb i k || getD lost i false ≡ false
+  stays : (lost : List Bool) → lost ≡ tab (losesAt new create t k connection) bearerCount → TableInRange t → i < bearerCount → eqb i k || getD lost i false ≡ false
       → bearerAt t i ≡ bearerOf (laidView new create t k connection) i
   unfolding losesAt
   stays lost e ok l h =
@@ -42,13 +43,13 @@ module _ (new : List Filter) (create : Bool) (t : Table) (k connection i : ℕ) 
       ∙ sym (lost-at new create t k connection lost e i l) ∙ no .1 in
       ap (bearerWith (roleAt t i) (transactionAt t i))
       (row-stands new create (ofConnection t connection i) (bearerAt t i .row) (each-at (ok .bearers) noBearer i l .row .count) kept
-      ∙ ap (λ (named : Bool). tab (placedIn new create named (ofConnection t connection i) (bearerAt t i .row)) 16) (sym (no .0)))
+      ∙ ap (λ (named : Bool). tab (placedIn new create named (ofConnection t connection i) (bearerAt t i .row)) placeCount) (sym (no .0)))
 
 abbrev Inv-loop : tie.InvT-loop
 Inv-loop new taken create k connection t lost s₀ i₀ s i = Stored (laidView new create t k connection) t s i
 
 abbrev μ-loop : tie.MeasureT-loop
-μ-loop new taken create k connection t lost s₀ i₀ s i = 11 - i
+μ-loop new taken create k connection t lost s₀ i₀ s i = bearerCount - i
 
 loop-holds : tie.Need-loop-holds Inv-loop μ-loop
 loop-holds c =

@@ -10,7 +10,7 @@ use lib.Dec.{eqb}
 use lib.ListN.{replicate, length-replicate, getD-replicate}
 use Rattle.laws.proofs.Index.{stored, stored-start, stored-more, stored-done}
 use Rattle.table.specs.declared.bearer.Role.{Role}
-use Rattle.table.specs.Bearers.{connectionOf}
+use Rattle.table.specs.Bearers.{connectionOf, bearerCount}
 use Rattle.calls.specs.Steps.{ofConnection}
 use Rattle.calls.specs.Lay.{losesAt}
 use Rattle.calls.proofs.Rows.{stored-skip}
@@ -21,10 +21,10 @@ use Rattle.calls.proofs.lay.losses.Tie as tie
 
 abbrev Inv-loop : tie.InvT-loop
 Inv-loop new taken create k connection t roles lost₀ i₀ lost i =
-    (i ≤ 11) × (lost ≡ stored (losesAt new create t k connection) (replicate 11 false) i)
+    (i ≤ bearerCount) × (lost ≡ stored (losesAt new create t k connection) (replicate bearerCount false) i)
 
 abbrev μ-loop : tie.MeasureT-loop
-μ-loop new taken create k connection t roles lost₀ i₀ lost i = 11 - i
+μ-loop new taken create k connection t roles lost₀ i₀ lost i = bearerCount - i
 
 loop-holds : tie.Need-loop-holds Inv-loop μ-loop
 loop-holds c = (omega arith, stored-start _ _)
@@ -39,9 +39,9 @@ loop-again c =
     let mine = sym (c .before .of-connection .ensures ∙ ap (λ (role : Role). eqb (connectionOf (l .i) role) (a .connection)) (role-at (a .t4) (a .t5) (start .pre .1) (l .i) (omega arith))) in (
       omega arith,
       ⊎-elim
-          (λ w. w .4 ∙ stored-more lost (replicate 11 false) (l .i) (l .lost) _ (mine-loses (a .new) (a .create) (a .t4) (a .k) (a .connection) (l .i) _ (mine ∙ w .0 .taken) (w .3 .ensures)) (l .inv .1))
-          (λ w. w .1 ∙ stored-skip lost (replicate 11 false) false (l .i) (l .lost)
-          (getD-replicate 11 (l .i) false false (omega arith) ∙ other-loses (a .new) (a .create) (a .t4) (a .k) (a .connection) (l .i) (mine ∙ w .0 .left)) (l .inv .1))
+          (λ w. w .4 ∙ stored-more lost (replicate bearerCount false) (l .i) (l .lost) _ (mine-loses (a .new) (a .create) (a .t4) (a .k) (a .connection) (l .i) _ (mine ∙ w .0 .taken) (w .3 .ensures)) (l .inv .1))
+          (λ w. w .1 ∙ stored-skip lost (replicate bearerCount false) false (l .i) (l .lost)
+          (getD-replicate bearerCount (l .i) false false (omega arith) ∙ other-loses (a .new) (a .create) (a .t4) (a .k) (a .connection) (l .i) (mine ∙ w .0 .left)) (l .inv .1))
           (c .if1 .came),
     )
 
@@ -49,7 +49,7 @@ returns : tie.Need-returns Inv-loop μ-loop
 returns c =
     let a = c .before .before .args in
     let l = c .before .loop in
-    stored-done (losesAt (a .new) (a .create) (a .t4) (a .k) (a .connection)) (replicate 11 false) false (l .i) 11 _ (length-replicate 11 false)
+    stored-done (losesAt (a .new) (a .create) (a .t4) (a .k) (a .connection)) (replicate bearerCount false) false (l .i) bearerCount _ (length-replicate bearerCount false)
     (omega arith) (omega arith) (l .inv .1)
 
 pub losses-spec : {M : Type 1} → statement M

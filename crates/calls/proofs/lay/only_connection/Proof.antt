@@ -6,16 +6,17 @@ use Prim.Native.Nat.{_≤_, _-_}
 use native.Mathlib.Omega.{arith}
 use Rattle.laws.specs.Index.{anyBelow}
 use Rattle.laws.proofs.Index.{any-start, any-more, done}
+use Rattle.table.specs.Bearers.{bearerCount}
 use Rattle.calls.specs.Lay.{otherAt, onlyConnection}
 use borrow.Author.Needs.{needs}
 use Rattle.calls.proofs.lay.only_connection.Statement.{statement}
 use Rattle.calls.proofs.lay.only_connection.Tie as tie
 
 abbrev Inv-loop : tie.InvT-loop
-Inv-loop connection t any₀ i₀ any i = (i ≤ 11) × (any ≡ anyBelow (otherAt t connection) i)
+Inv-loop connection t any₀ i₀ any i = (i ≤ bearerCount) × (any ≡ anyBelow (otherAt t connection) i)
 
 abbrev μ-loop : tie.MeasureT-loop
-μ-loop connection t any₀ i₀ any i = 11 - i
+μ-loop connection t any₀ i₀ any i = bearerCount - i
 
 loop-holds : tie.Need-loop-holds Inv-loop μ-loop
 loop-holds c = (omega arith, any-start (otherAt (c .args .t1) (c .args .connection)))
@@ -32,7 +33,7 @@ unfolding onlyConnection
 returns c =
     let a = c .before .before .args in
     let l = c .before .loop in
-    ap not (done (anyBelow (otherAt (a .t1) (a .connection))) (l .i) 11 _ (omega arith) (omega arith) (l .inv .1))
+    ap not (done (anyBelow (otherAt (a .t1) (a .connection))) (l .i) bearerCount _ (omega arith) (omega arith) (l .inv .1))
 
 pub only-connection-spec : {M : Type 1} → statement M
 only-connection-spec =

@@ -7,6 +7,7 @@ use Rattle.laws.proofs.Index.{stored, stored-start, stored-more, stored-done}
 use Rattle.laws.proofs.Typed.{each-at}
 use Rattle.filter.specs.Build.{emptyFilter}
 use Rattle.table.specs.Bearers.{inRow}
+use Rattle.filter.specs.Sizes.{placeCount}
 use Rattle.calls.specs.Lay.{placedIn}
 use Rattle.calls.proofs.Conflicts.{took-is, placed-by}
 use Rattle.calls.proofs.Typed.{row-in-range}
@@ -15,10 +16,10 @@ use Rattle.calls.proofs.lay.row_after.Statement.{statement}
 use Rattle.calls.proofs.lay.row_after.Tie as tie
 
 abbrev Inv-loop : tie.InvT-loop
-Inv-loop create named mine new taken row s₀ j₀ s j = (j ≤ 16) × (s ≡ stored (placedIn new create named mine row) s₀ j)
+Inv-loop create named mine new taken row s₀ j₀ s j = (j ≤ placeCount) × (s ≡ stored (placedIn new create named mine row) s₀ j)
 
 abbrev μ-loop : tie.MeasureT-loop
-μ-loop create named mine new taken row s₀ j₀ s j = 16 - j
+μ-loop create named mine new taken row s₀ j₀ s j = placeCount - j
 
 loop-holds : tie.Need-loop-holds Inv-loop μ-loop
 loop-holds c = (omega arith, stored-start _ _)
@@ -48,7 +49,7 @@ returns c =
     let a = start .args in
     let l = c .before .loop in
     let ok = row-in-range (a .t6) _ (start .good .1 .1 .1 .1 .1 .0) in
-    stored-done (placedIn (a .t1) (a .create) (a .named) (a .mine) (a .t6)) (a .t6) emptyFilter (l .j) 16 _ (ok .count) (omega arith) (omega arith) (l .inv .1)
+    stored-done (placedIn (a .t1) (a .create) (a .named) (a .mine) (a .t6)) (a .t6) emptyFilter (l .j) placeCount _ (ok .count) (omega arith) (omega arith) (l .inv .1)
 
 pub row-after-spec : {M : Type 1} → statement M
 row-after-spec =

@@ -9,6 +9,7 @@ use Rattle.laws.proofs.Index.{any-start, any-more, done}
 use Rattle.laws.proofs.Typed.{each-at}
 use Rattle.filter.specs.Build.{emptyFilter}
 use Rattle.table.specs.Bearers.{inRow}
+use Rattle.filter.specs.Sizes.{placeCount}
 use Rattle.calls.specs.Lay.{conflictIn, loses}
 use Rattle.calls.proofs.Conflicts.{took-is, conflict-old}
 use Rattle.calls.proofs.Typed.{row-in-range}
@@ -17,10 +18,10 @@ use Rattle.calls.proofs.lay.row_loses.Statement.{statement}
 use Rattle.calls.proofs.lay.row_loses.Tie as tie
 
 abbrev Inv-loop : tie.InvT-loop
-Inv-loop create named new taken row any₀ j₀ any j = (j ≤ 16) × (any ≡ anyBelow (conflictIn new create named true row) j)
+Inv-loop create named new taken row any₀ j₀ any j = (j ≤ placeCount) × (any ≡ anyBelow (conflictIn new create named true row) j)
 
 abbrev μ-loop : tie.MeasureT-loop
-μ-loop create named new taken row any₀ j₀ any j = 16 - j
+μ-loop create named new taken row any₀ j₀ any j = placeCount - j
 
 loop-holds : tie.Need-loop-holds Inv-loop μ-loop
 loop-holds c =
@@ -51,7 +52,7 @@ unfolding loses
 returns c =
     let a = c .before .before .args in
     let l = c .before .loop in
-    done (anyBelow (conflictIn (a .t1) (a .create) (a .named) true (a .t5))) (l .j) 16 _ (omega arith) (omega arith) (l .inv .1)
+    done (anyBelow (conflictIn (a .t1) (a .create) (a .named) true (a .t5))) (l .j) placeCount _ (omega arith) (omega arith) (l .inv .1)
 
 pub row-loses-spec : {M : Type 1} → statement M
 row-loses-spec =

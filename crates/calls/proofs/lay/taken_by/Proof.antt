@@ -7,6 +7,7 @@ use Rattle.laws.specs.Index.{tab}
 use Rattle.laws.proofs.Index.{done}
 use Rattle.laws.proofs.Typed.{each-at}
 use Rattle.filter.specs.Build.{emptyFilter}
+use Rattle.filter.specs.Sizes.{placeCount, precedenceCount}
 use Rattle.calls.proofs.Conflicts.{takenBelow, taken-start, taken-more, taken-done}
 use Rattle.calls.proofs.Typed.{row-in-range}
 use borrow.Author.Needs.{needs}
@@ -14,10 +15,10 @@ use Rattle.calls.proofs.lay.taken_by.Statement.{statement}
 use Rattle.calls.proofs.lay.taken_by.Tie as tie
 
 abbrev Inv-loop : tie.InvT-loop
-Inv-loop new taken₀ j₀ taken j = (j ≤ 16) × (taken ≡ tab (takenBelow new j) 256)
+Inv-loop new taken₀ j₀ taken j = (j ≤ placeCount) × (taken ≡ tab (takenBelow new j) precedenceCount)
 
 abbrev μ-loop : tie.MeasureT-loop
-μ-loop new taken₀ j₀ taken j = 16 - j
+μ-loop new taken₀ j₀ taken j = placeCount - j
 
 loop-holds : tie.Need-loop-holds Inv-loop μ-loop
 loop-holds c = (omega arith, taken-start (c .args .t1))
@@ -44,7 +45,7 @@ returns : tie.Need-returns Inv-loop μ-loop
 returns c =
     let a = c .before .before .args in
     let l = c .before .loop in
-    done (λ (j : ℕ). tab (takenBelow (a .t1) j) 256) (l .j) 16 _ (omega arith) (omega arith) (l .inv .1) ∙ taken-done (a .t1)
+    done (λ (j : ℕ). tab (takenBelow (a .t1) j) precedenceCount) (l .j) placeCount _ (omega arith) (omega arith) (l .inv .1) ∙ taken-done (a .t1)
 
 pub taken-by-spec : {M : Type 1} → statement M
 taken-by-spec =

@@ -7,7 +7,7 @@ use Prim.Native.Nat.{ℕ, _+_, _-_, _<_}
 use lib.Dec.{eqb}
 use borrow.Author.Tests.{eq-eqb, ne-eqb}
 use Rattle.table.specs.declared.bearer.Table.{Table}
-use Rattle.table.specs.Bearers.{bearerAt, bearerOf, roleAt, transactionAt}
+use Rattle.table.specs.Bearers.{bearerAt, bearerOf, roleAt, transactionAt, bearerCount}
 use Rattle.table.specs.Ranges.{TableInRange}
 use Rattle.table.proofs.Typed.{table-in-range}
 use Rattle.calls.specs.Steps.{opensAt, closedView, closed}
@@ -16,7 +16,7 @@ use borrow.Author.Needs.{needs}
 use Rattle.calls.proofs.steps.close.Statement.{statement}
 use Rattle.calls.proofs.steps.close.Tie as tie
 
-module _ (t : Table) (x i : ℕ) (ok : TableInRange t) (l : i < 11) where
+module _ (t : Table) (x i : ℕ) (ok : TableInRange t) (l : i < bearerCount) where
   closes : eqb (transactionAt t i) x ≡ true → bearerWith (roleAt t i) 0 (bearerAt t i .row) ≡ bearerOf (closedView t x) i
   unfolding opensAt
   closes e = rw e (row-kept-at t i ok l _ _)
@@ -29,7 +29,7 @@ abbrev Inv-loop : tie.InvT-loop
 Inv-loop x t s₀ i₀ s i = Stored (closedView t x) t s i
 
 abbrev μ-loop : tie.MeasureT-loop
-μ-loop x t s₀ i₀ s i = 11 - i
+μ-loop x t s₀ i₀ s i = bearerCount - i
 
 returns : tie.Need-returns Inv-loop μ-loop
 unfolding closed

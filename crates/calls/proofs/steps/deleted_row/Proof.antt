@@ -6,6 +6,7 @@ use Prim.Native.Nat.{_≤_, _-_}
 use native.Mathlib.Omega.{arith}
 use Rattle.laws.proofs.Index.{stored, stored-start, stored-more, stored-done}
 use Rattle.filter.specs.Build.{emptyFilter}
+use Rattle.filter.specs.Sizes.{placeCount}
 use Rattle.calls.specs.Steps.{deletedIn}
 use Rattle.calls.proofs.Typed.{row-in-range}
 use borrow.Author.Needs.{needs}
@@ -13,10 +14,10 @@ use Rattle.calls.proofs.steps.deleted_row.Statement.{statement}
 use Rattle.calls.proofs.steps.deleted_row.Tie as tie
 
 abbrev Inv-loop : tie.InvT-loop
-Inv-loop marks row s₀ j₀ s j = (j ≤ 16) × (s ≡ stored (deletedIn true marks row) row j)
+Inv-loop marks row s₀ j₀ s j = (j ≤ placeCount) × (s ≡ stored (deletedIn true marks row) row j)
 
 abbrev μ-loop : tie.MeasureT-loop
-μ-loop marks row s₀ j₀ s j = 16 - j
+μ-loop marks row s₀ j₀ s j = placeCount - j
 
 loop-holds : tie.Need-loop-holds Inv-loop μ-loop
 loop-holds c = (omega arith, stored-start _ _)
@@ -34,7 +35,7 @@ returns c =
     let a = start .args in
     let l = c .before .loop in
     let ok = row-in-range (a .t2) _ (start .good .1 .0) in
-    stored-done (deletedIn true (a .t1) (a .t2)) (a .t2) emptyFilter (l .j) 16 _ (ok .count) (omega arith) (omega arith) (l .inv .1)
+    stored-done (deletedIn true (a .t1) (a .t2)) (a .t2) emptyFilter (l .j) placeCount _ (ok .count) (omega arith) (omega arith) (l .inv .1)
 
 pub deleted-row-spec : {M : Type 1} → statement M
 deleted-row-spec =

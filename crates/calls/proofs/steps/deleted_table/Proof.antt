@@ -19,6 +19,7 @@ use Rattle.laws.proofs.Typed.{each-at}
 use Rattle.filter.specs.declared.component.Filter.{Filter}
 use Rattle.filter.specs.Build.{emptyFilter}
 use Rattle.table.specs.Bearers.{noBearer}
+use Rattle.filter.specs.Sizes.{placeCount}
 use Rattle.calls.specs.Steps.{deletedIn, deletedView}
 use Rattle.calls.proofs.Rows.{bearerWith, Beside, store-one, store-past}
 use borrow.Author.Needs.{needs}
@@ -26,7 +27,7 @@ use Rattle.calls.proofs.steps.deleted_table.Statement.{statement}
 use Rattle.calls.proofs.steps.deleted_table.Tie as tie
 
 module _ (t : Table) (k : ℕ) (marks : List Bool) where
-  here : (row : List Filter) → row ≡ tab (deletedIn true marks (bearerAt t k .row)) 16
+  here : (row : List Filter) → row ≡ tab (deletedIn true marks (bearerAt t k .row)) placeCount
       → bearerWith (roleAt t k) (transactionAt t k) row ≡ bearerOf (deletedView t k marks) k
   here row e = rw (says-eq k k .from refl) (ap (bearerWith (roleAt t k) (transactionAt t k)) e)
 
@@ -34,8 +35,8 @@ module _ (t : Table) (k : ℕ) (marks : List Bool) where
   unfolding deletedIn
   beside ok i m n =
       ap (bearerWith (roleAt t i) (transactionAt t i))
-      (tab-is emptyFilter (deletedIn false marks (bearerAt t i .row)) (bearerAt t i .row) 16 (each-at (ok .bearers) noBearer i m .row .count) (λ j l. refl)
-      ∙ ap (λ (named : Bool). tab (deletedIn named marks (bearerAt t i .row)) 16) (sym (says-no (says-eq i k) n)))
+      (tab-is emptyFilter (deletedIn false marks (bearerAt t i .row)) (bearerAt t i .row) placeCount (each-at (ok .bearers) noBearer i m .row .count) (λ j l. refl)
+      ∙ ap (λ (named : Bool). tab (deletedIn named marks (bearerAt t i .row)) placeCount) (sym (says-no (says-eq i k) n)))
 
 returns : tie.Need-returns
 returns c =

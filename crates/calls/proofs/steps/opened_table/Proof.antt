@@ -10,7 +10,7 @@ use Rattle.laws.proofs.Says.{says-eq, says-no}
 use Rattle.table.specs.declared.bearer.Role.{Role}
 use Rattle.table.specs.declared.bearer.Bearer.{Bearer}
 use Rattle.table.specs.declared.bearer.Table.{Table}
-use Rattle.table.specs.Bearers.{bearerAt, bearerOf, roleAt, transactionAt}
+use Rattle.table.specs.Bearers.{bearerAt, bearerOf, roleAt, transactionAt, bearerCount}
 use Rattle.table.specs.Ranges.{TableInRange}
 use Rattle.table.proofs.Typed.{table-in-range}
 use Rattle.calls.specs.Steps.{openedView}
@@ -20,7 +20,7 @@ use Rattle.calls.proofs.steps.opened_table.Statement.{statement}
 use Rattle.calls.proofs.steps.opened_table.Tie as tie
 
 module _ (t : Table) (k : ℕ) (role : Role) (ok : TableInRange t) where
-  here : k < 11 → bearerWith role (transactionAt t k) (bearerAt t k .row) ≡ bearerOf (openedView t k role) k
+  here : k < bearerCount → bearerWith role (transactionAt t k) (bearerAt t k .row) ≡ bearerOf (openedView t k role) k
   here l = rw (says-eq k k .from refl) (row-kept-at t k ok l _ _)
 
   beside : Beside (openedView t k role) t k

@@ -5,16 +5,17 @@ use Prim.Native.Nat.{_≤_, _-_}
 use native.Mathlib.Omega.{arith}
 use Rattle.laws.specs.Index.{anyBelow}
 use Rattle.laws.proofs.Index.{any-start, any-more, done}
+use Rattle.table.specs.Bearers.{bearerCount}
 use Rattle.calls.specs.Steps.{opensAt}
 use borrow.Author.Needs.{needs}
 use Rattle.calls.proofs.steps.opens_any.Statement.{statement}
 use Rattle.calls.proofs.steps.opens_any.Tie as tie
 
 abbrev Inv-loop : tie.InvT-loop
-Inv-loop x t any₀ i₀ any i = (i ≤ 11) × (any ≡ anyBelow (opensAt t x) i)
+Inv-loop x t any₀ i₀ any i = (i ≤ bearerCount) × (any ≡ anyBelow (opensAt t x) i)
 
 abbrev μ-loop : tie.MeasureT-loop
-μ-loop x t any₀ i₀ any i = 11 - i
+μ-loop x t any₀ i₀ any i = bearerCount - i
 
 loop-holds : tie.Need-loop-holds Inv-loop μ-loop
 loop-holds c = (omega arith, any-start (opensAt (c .args .t1) (c .args .x)))
@@ -30,7 +31,7 @@ returns : tie.Need-returns Inv-loop μ-loop
 returns c =
     let a = c .before .before .args in
     let l = c .before .loop in
-    done (anyBelow (opensAt (a .t1) (a .x))) (l .i) 11 _ (omega arith) (omega arith) (l .inv .1)
+    done (anyBelow (opensAt (a .t1) (a .x))) (l .i) bearerCount _ (omega arith) (omega arith) (l .inv .1)
 
 pub opens-any-spec : {M : Type 1} → statement M
 opens-any-spec =

@@ -6,17 +6,17 @@ use Prim.Native.Nat.{_≤_, _-_}
 use native.Mathlib.Omega.{arith}
 use borrow.Author.Tests.{eq-eqb, ne-eqb}
 use Rattle.laws.proofs.Index.{next, done}
-use Rattle.table.specs.Bearers.{transactionAt}
+use Rattle.table.specs.Bearers.{transactionAt, bearerCount}
 use Rattle.calls.specs.Steps.{opensAt, ownerBelow}
 use borrow.Author.Needs.{needs}
 use Rattle.calls.proofs.steps.owner_of.Statement.{statement}
 use Rattle.calls.proofs.steps.owner_of.Tie as tie
 
 abbrev Inv-loop : tie.InvT-loop
-Inv-loop x t owner₀ i₀ owner i = (i ≤ 11) × (owner ≡ ownerBelow t x i)
+Inv-loop x t owner₀ i₀ owner i = (i ≤ bearerCount) × (owner ≡ ownerBelow t x i)
 
 abbrev μ-loop : tie.MeasureT-loop
-μ-loop x t owner₀ i₀ owner i = 11 - i
+μ-loop x t owner₀ i₀ owner i = bearerCount - i
 
 loop-holds : tie.Need-loop-holds Inv-loop μ-loop
 unfolding ownerBelow
@@ -37,7 +37,7 @@ returns : tie.Need-returns Inv-loop μ-loop
 returns c =
     let a = c .before .before .args in
     let l = c .before .loop in
-    done (ownerBelow (a .t1) (a .x)) (l .i) 11 _ (omega arith) (omega arith) (l .inv .1)
+    done (ownerBelow (a .t1) (a .x)) (l .i) bearerCount _ (omega arith) (omega arith) (l .inv .1)
 
 pub owner-of-spec : {M : Type 1} → statement M
 owner-of-spec =

@@ -13,7 +13,8 @@ use Rattle.table.specs.declared.bearer.Table.{Table}
 use Rattle.table.specs.Bearers.{bearerAt, bearerOf, roleAt, transactionAt}
 use Rattle.table.specs.Ranges.{TableInRange}
 use Rattle.table.proofs.Typed.{table-in-range}
-use Rattle.calls.specs.Steps.{cutView, isAt, cutBearer}
+use Rattle.calls.specs.inner.Walk.{cutBearer}
+use Rattle.calls.specs.Steps.{cutView, isAt}
 use Rattle.calls.proofs.Rows.{row-kept-at, Beside, store-one, store-past}
 use borrow.Author.Needs.{needs}
 use Rattle.calls.proofs.steps.without_bearer.Statement.{statement}

@@ -3,9 +3,10 @@
 use mathlib.Core.Path.{_∙_, ap}
 use mathlib.Core.Bool.{Bool}
 use Prim.Native.Nat.{_-_}
-use Rattle.table.specs.Bearers.{bearerAt}
+use Rattle.table.specs.Bearers.{bearerAt, bearerCount}
 use Rattle.table.proofs.Typed.{table-in-range}
-use Rattle.calls.specs.Steps.{cutView, ofConnection, cutBearer}
+use Rattle.calls.specs.inner.Walk.{cutBearer}
+use Rattle.calls.specs.Steps.{cutView, ofConnection}
 use Rattle.calls.proofs.Rows.{Stored, store-start, store-more, store-done}
 use borrow.Author.Needs.{needs}
 use Rattle.calls.proofs.steps.without_connection.Statement.{statement}
@@ -15,7 +16,7 @@ abbrev Inv-loop : tie.InvT-loop
 Inv-loop connection t s₀ i₀ s i = Stored (cutView t (ofConnection t connection)) t s i
 
 abbrev μ-loop : tie.MeasureT-loop
-μ-loop connection t s₀ i₀ s i = 11 - i
+μ-loop connection t s₀ i₀ s i = bearerCount - i
 
 loop-holds : tie.Need-loop-holds Inv-loop μ-loop
 loop-holds c =

@@ -1,4 +1,4 @@
--- `table::bearer::role_of` meets its contract: by what `in_range`, `index_of` and `role_at` give.
+-- `table::bearer::role_of` meets its contract: by what `is_identity`, `index_of` and `role_at` give.
 -- Assumes nothing.
 use mathlib.Core.Path.{sym, _∙_}
 use borrow.Author.Needs.{needs}
@@ -10,5 +10,5 @@ role-of-spec =
     tie.close
     (tie.spec
     (λ c κs. search needs) (λ c κs. search needs) (λ c κs. search needs)
-    (λ c. rw (sym (c .before .before .before .in-range .ensures) ∙ c .before .before .if1 .taken, ← c .before .index-of .ensures) (c .role-at .ensures))
-    (λ c. rw (sym (c .before .in-range .ensures) ∙ c .if1 .left)))
+    (λ c. rw (sym (c .before .before .before .is-identity .ensures) ∙ c .before .before .if1 .taken, ← c .before .index-of .ensures) (c .role-at .ensures))
+    (λ c. rw (sym (c .before .is-identity .ensures) ∙ c .if1 .left)))

@@ -7,6 +7,7 @@ use Prim.Native.Nat.{_≤_, _-_}
 use native.Mathlib.Omega.{arith}
 use Rattle.laws.specs.Index.{allBelow}
 use Rattle.laws.proofs.Index.{all-start, all-more, done}
+use Rattle.table.specs.Bearers.{bearerCount}
 use Rattle.table.specs.WellFormed.{distinctAt, distinctPrecedences}
 use Rattle.table.proofs.Walks.{distinct-default, distinct-other}
 use borrow.Author.Needs.{needs}
@@ -14,10 +15,10 @@ use Rattle.table.proofs.distinct.distinct_precedences.Statement.{statem
 use Rattle.table.proofs.distinct.distinct_precedences.Tie as tie
 
 abbrev Inv-loop : tie.InvT-loop
-Inv-loop t all₀ i₀ all i = (i ≤ 11) × (all ≡ allBelow (distinctAt t) i)
+Inv-loop t all₀ i₀ all i = (i ≤ bearerCount) × (all ≡ allBelow (distinctAt t) i)
 
 abbrev μ-loop : tie.MeasureT-loop
-μ-loop t all₀ i₀ all i = 11 - i
+μ-loop t all₀ i₀ all i = bearerCount - i
 
 loop-holds : tie.Need-loop-holds Inv-loop μ-loop
 loop-holds c = (omega arith, all-start _)
@@ -37,7 +38,7 @@ unfolding distinctPrecedences
 returns c =
     let a = c .before .before .args in
     let l = c .before .loop in
-    done (allBelow (distinctAt (a .t1))) (l .i) 11 _ (omega arith) (omega arith) (l .inv .1)
+    done (allBelow (distinctAt (a .t1))) (l .i) bearerCount _ (omega arith) (omega arith) (l .inv .1)
 
 pub distinct-precedences-spec : {M : Type 1} → statement M
 distinct-precedences-spec =

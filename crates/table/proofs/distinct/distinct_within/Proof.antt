@@ -5,11 +5,12 @@ use mathlib.Core.Path.{_≡_, sym, _∙_}
 use mathlib.Core.Logic.{⊎-elim}
 use Prim.Native.Nat.{ℕ, _≤_, _-_}
 use native.Mathlib.Omega.{arith}
-use borrow.Author.Tests.{eq-eqb, ne-eqb}
 use Rattle.laws.specs.Lists.{fold}
 use Rattle.laws.proofs.Index.{done}
-use Rattle.table.specs.WellFormed.{joined, precedencesOf, connectionPrecedences}
-use Rattle.table.specs.Walk.{noneMarked, marked}
+use Rattle.laws.specs.Index.{joined}
+use Rattle.table.specs.Bearers.{bearerCount}
+use Rattle.table.specs.WellFormed.{precedencesOf, connectionPrecedences}
+use Rattle.table.specs.inner.Walk.{noneMarked, marked}
 use Rattle.table.proofs.Typed.{table-in-range}
 use Rattle.table.proofs.Walks.{marked-start, marked-more, marked-row, marked-none, marks-find}
 use borrow.Author.Needs.{needs}
@@ -17,10 +18,10 @@ use Rattle.table.proofs.distinct.distinct_within.Statement.{statement}
 use Rattle.table.proofs.distinct.distinct_within.Tie as tie
 
 abbrev Inv-loop : tie.InvT-loop
-Inv-loop connection t marks₀ k₀ marks k = (k ≤ 11) × (marks ≡ fold marked noneMarked (joined (precedencesOf t connection) k))
+Inv-loop connection t marks₀ k₀ marks k = (k ≤ bearerCount) × (marks ≡ fold marked noneMarked (joined (precedencesOf t connection) k))
 
 abbrev μ-loop : tie.MeasureT-loop
-μ-loop connection t marks₀ k₀ marks k = 11 - k
+μ-loop connection t marks₀ k₀ marks k = bearerCount - k
 
 loop-holds : tie.Need-loop-holds Inv-loop μ-loop
 loop-holds c = (omega arith, c .none-marked .ensures ∙ marked-start _ _)
@@ -29,10 +30,10 @@ loop-again : tie.Need-loop-again Inv-loop μ-loop
 loop-again c =
     let a = c .before .before .before .before .before .before .args in
     let l = c .before .before .before .before .loop in
-    let e = sym (c .before .connection-of .ensures) in
+    let e = sym (c .before .of-connection .ensures) in
     let turn =
-    ⊎-elim {C = c .if1 .marks ≡ fold marked (l .marks) (precedencesOf (a .t1) (a .connection) (l .k))} (λ w. w .3 ∙ w .2 .ensures ∙ marked-row (l .marks) _ _ (eq-eqb _ _ (e ∙ w .0 .taken)))
-    (λ w. w .1 ∙ marked-none (l .marks) _ _ (ne-eqb _ _ (λ h. w .0 .left (sym e ∙ h)))) (c .if1 .came) in
+    ⊎-elim {C = c .if1 .marks ≡ fold marked (l .marks) (precedencesOf (a .t1) (a .connection) (l .k))} (λ w. w .3 ∙ w .2 .ensures ∙ marked-row (l .marks) _ _ (e ∙ w .0 .taken))
+    (λ w. w .1 ∙ marked-none (l .marks) _ _ (e ∙ w .0 .left)) (c .if1 .came) in
     (omega arith, marked-more (precedencesOf (a .t1) (a .connection)) noneMarked (l .k) (l .marks) (c .if1 .marks) turn (l .inv .1))
 
 returns : tie.Need-returns Inv-loop μ-loop
@@ -43,7 +44,7 @@ returns c =
     let l = c .before .before .loop in
     let ok = table-in-range (a .t1) _ (start .good .0) in
     marks-find (a .t1) ok (a .connection) (l .marks)
-    (done (λ (k : ℕ). fold marked noneMarked (joined (precedencesOf (a .t1) (a .connection)) k)) (l .k) 11 _ (omega arith) (omega arith) (l .inv .1))
+    (done (λ (k : ℕ). fold marked noneMarked (joined (precedencesOf (a .t1) (a .connection)) k)) (l .k) bearerCount _ (omega arith) (omega arith) (l .inv .1))
 
 pub distinct-within-spec : {M : Type 1} → statement M
 distinct-within-spec =

@@ -6,18 +6,20 @@ use Prim.Native.Nat.{ℕ, _≤_, _-_}
 use native.Mathlib.Omega.{arith}
 use Rattle.laws.specs.Lists.{fold}
 use Rattle.laws.proofs.Index.{done}
-use Rattle.table.specs.WellFormed.{joined, precedenceIn, rowPrecedences}
-use Rattle.table.specs.Walk.{marked}
+use Rattle.laws.specs.Index.{joined}
+use Rattle.filter.specs.Sizes.{placeCount}
+use Rattle.table.specs.WellFormed.{precedenceIn, rowPrecedences}
+use Rattle.table.specs.inner.Walk.{marked}
 use Rattle.table.proofs.Walks.{marked-start, marked-more, marked-one, marked-none}
 use borrow.Author.Needs.{needs}
 use Rattle.table.proofs.distinct.mark_row.Statement.{statement}
 use Rattle.table.proofs.distinct.mark_row.Tie as tie
 
 abbrev Inv-loop : tie.InvT-loop
-Inv-loop row st₀ j₀ st j = (j ≤ 16) × (st ≡ fold marked st₀ (joined (precedenceIn row) j))
+Inv-loop row st₀ j₀ st j = (j ≤ placeCount) × (st ≡ fold marked st₀ (joined (precedenceIn row) j))
 
 abbrev μ-loop : tie.MeasureT-loop
-μ-loop row st₀ j₀ st j = 16 - j
+μ-loop row st₀ j₀ st j = placeCount - j
 
 loop-holds : tie.Need-loop-holds Inv-loop μ-loop
 loop-holds c = (omega arith, marked-start _ _)
@@ -37,7 +39,7 @@ unfolding rowPrecedences
 returns c =
     let a = c .before .before .args in
     let l = c .before .loop in
-    done (λ (j : ℕ). fold marked (a .marks) (joined (precedenceIn (a .t2)) j)) (l .j) 16 _ (omega arith) (omega arith) (l .inv .1)
+    done (λ (j : ℕ). fold marked (a .marks) (joined (precedenceIn (a .t2)) j)) (l .j) placeCount _ (omega arith) (omega arith) (l .inv .1)
 
 pub mark-row-spec : {M : Type 1} → statement M
 mark-row-spec =

@@ -1,7 +1,7 @@
 -- `table::distinct::none_marked` meets its contract: the fields are those of the definition.
 -- Assumes nothing.
 use mathlib.Core.Path.{refl}
-use Rattle.table.specs.Walk.{noneMarked}
+use Rattle.table.specs.inner.Walk.{noneMarked}
 use Rattle.table.proofs.distinct.none_marked.Statement.{statement}
 use Rattle.table.proofs.distinct.none_marked.Tie as tie
 

@@ -1,6 +1,6 @@
 -- `table::well_formed::bearer_fine` meets its contract: by what the tests of its parts give.
 -- Assumes nothing.
-use Rattle.table.specs.Walk.{bearerIn}
+use Rattle.table.specs.inner.Walk.{bearerIn}
 use borrow.Author.Needs.{needs}
 use Rattle.table.proofs.well_formed.bearer_fine.Statement.{statement}
 use Rattle.table.proofs.well_formed.bearer_fine.Tie as tie

@@ -6,16 +6,17 @@ use Prim.Native.Nat.{_≤_, _-_}
 use native.Mathlib.Omega.{arith}
 use lib.ListN.{length-replicate}
 use Rattle.laws.proofs.Index.{stored, stored-start, stored-more, stored-done}
-use Rattle.table.specs.Walk.{defaultAt}
+use Rattle.table.specs.Bearers.{bearerCount}
+use Rattle.table.specs.inner.Walk.{defaultAt}
 use borrow.Author.Needs.{needs}
 use Rattle.table.proofs.well_formed.defaults.Statement.{statement}
 use Rattle.table.proofs.well_formed.defaults.Tie as tie
 
 abbrev Inv-loop : tie.InvT-loop
-Inv-loop t all₀ i₀ all i = (i ≤ 11) × (all ≡ stored (defaultAt t) all₀ i)
+Inv-loop t all₀ i₀ all i = (i ≤ bearerCount) × (all ≡ stored (defaultAt t) all₀ i)
 
 abbrev μ-loop : tie.MeasureT-loop
-μ-loop t all₀ i₀ all i = 11 - i
+μ-loop t all₀ i₀ all i = bearerCount - i
 
 loop-holds : tie.Need-loop-holds Inv-loop μ-loop
 loop-holds c = (omega arith, stored-start _ _)
@@ -30,7 +31,7 @@ returns : tie.Need-returns Inv-loop μ-loop
 returns c =
     let a = c .before .before .args in
     let l = c .before .loop in
-    stored-done (defaultAt (a .t1)) _ false (l .i) 11 _ (length-replicate 11 false) (omega arith) (omega arith) (l .inv .1)
+    stored-done (defaultAt (a .t1)) _ false (l .i) bearerCount _ (length-replicate bearerCount false) (omega arith) (omega arith) (l .inv .1)
 
 pub defaults-spec : {M : Type 1} → statement M
 defaults-spec =

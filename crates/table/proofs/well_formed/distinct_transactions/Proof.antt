@@ -5,16 +5,17 @@ use Prim.Native.Nat.{_≤_, _-_}
 use native.Mathlib.Omega.{arith}
 use Rattle.laws.specs.Index.{allBelow}
 use Rattle.laws.proofs.Index.{all-start, all-more, done}
-use Rattle.table.specs.Walk.{apartFrom}
+use Rattle.table.specs.Bearers.{bearerCount}
+use Rattle.table.specs.inner.Walk.{apartFrom}
 use borrow.Author.Needs.{needs}
 use Rattle.table.proofs.well_formed.distinct_transactions.Statement.{statement}
 use Rattle.table.proofs.well_formed.distinct_transactions.Tie as tie
 
 abbrev Inv-loop : tie.InvT-loop
-Inv-loop xs all₀ i₀ all i = (i ≤ 11) × (all ≡ allBelow (apartFrom xs) i)
+Inv-loop xs all₀ i₀ all i = (i ≤ bearerCount) × (all ≡ allBelow (apartFrom xs) i)
 
 abbrev μ-loop : tie.MeasureT-loop
-μ-loop xs all₀ i₀ all i = 11 - i
+μ-loop xs all₀ i₀ all i = bearerCount - i
 
 loop-holds : tie.Need-loop-holds Inv-loop μ-loop
 loop-holds c = (omega arith, all-start _)
@@ -29,7 +30,7 @@ returns : tie.Need-returns Inv-loop μ-loop
 returns c =
     let a = c .before .before .args in
     let l = c .before .loop in
-    done (allBelow (apartFrom (a .xs))) (l .i) 11 _ (omega arith) (omega arith) (l .inv .1)
+    done (allBelow (apartFrom (a .xs))) (l .i) bearerCount _ (omega arith) (omega arith) (l .inv .1)
 
 pub distinct-transactions-spec : {M : Type 1} → statement M
 distinct-transactions-spec = tie.close (tie.spec Inv-loop μ-loop loop-holds (λ c κs. search needs) (λ c. search needs) (λ c. search needs) loop-again returns)

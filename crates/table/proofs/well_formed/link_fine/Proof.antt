@@ -8,17 +8,17 @@ use Rattle.table.proofs.well_formed.link_fine.Tie as tie
 
 array-read-result : tie.Need-array-read-result
 array-read-result c =
-    rw (c .index-of .ensures) (in-eleven _ (sym (c .before .before .in-range .ensures) ∙ c .before .if1 .taken))
+    rw (c .index-of .ensures) (in-eleven _ (sym (c .before .before .is-identity .ensures) ∙ c .before .if1 .taken))
 
 returns-3 : tie.Need-returns-3
 returns-3 c =
     let known = c .before .before .before .before .role .given .1 in
-    rw (known, sym (c .before .before .in-range .ensures) ∙ c .before .if1 .taken, c .index-of .ensures)
+    rw (known, sym (c .before .before .is-identity .ensures) ∙ c .before .if1 .taken, c .index-of .ensures)
 
 returns-4 : tie.Need-returns-4
 returns-4 c =
     let known = c .before .before .before .role .given .1 in
-    rw (known, sym (c .before .in-range .ensures) ∙ c .if1 .left)
+    rw (known, sym (c .before .is-identity .ensures) ∙ c .if1 .left)
 
 pub link-fine-spec : {M : Type 1} → statement M
 link-fine-spec =

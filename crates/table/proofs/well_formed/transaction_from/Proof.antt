@@ -5,16 +5,17 @@ use Prim.Native.Nat.{_≤_, _-_}
 use native.Mathlib.Omega.{arith}
 use Rattle.laws.specs.Index.{allBelow}
 use Rattle.laws.proofs.Index.{all-start, all-more, done}
-use Rattle.table.specs.Walk.{apartIn, apartFrom}
+use Rattle.table.specs.Bearers.{bearerCount}
+use Rattle.table.specs.inner.Walk.{apartIn, apartFrom}
 use borrow.Author.Needs.{needs}
 use Rattle.table.proofs.well_formed.transaction_from.Statement.{statement}
 use Rattle.table.proofs.well_formed.transaction_from.Tie as tie
 
 abbrev Inv-loop : tie.InvT-loop
-Inv-loop i xs all₀ k₀ all k = (k ≤ 11) × (all ≡ allBelow (apartIn xs i) k)
+Inv-loop i xs all₀ k₀ all k = (k ≤ bearerCount) × (all ≡ allBelow (apartIn xs i) k)
 
 abbrev μ-loop : tie.MeasureT-loop
-μ-loop i xs all₀ k₀ all k = 11 - k
+μ-loop i xs all₀ k₀ all k = bearerCount - k
 
 loop-holds : tie.Need-loop-holds Inv-loop μ-loop
 loop-holds c =
@@ -33,7 +34,7 @@ unfolding apartFrom
 returns c =
     let a = c .before .before .args in
     let l = c .before .loop in
-    done (allBelow (apartIn (a .t1) (a .i))) (l .k) 11 _ (omega arith) (omega arith) (l .inv .1)
+    done (allBelow (apartIn (a .t1) (a .i))) (l .k) bearerCount _ (omega arith) (omega arith) (l .inv .1)
 
 pub transaction-from-spec : {M : Type 1} → statement M
 transaction-from-spec =

@@ -5,16 +5,16 @@ use Prim.Native.Nat.{ℕ, _≤_, _-_}
 use native.Mathlib.Omega.{arith}
 use lib.ListN.{length-replicate}
 use Rattle.laws.proofs.Index.{stored, stored-start, stored-more, stored-done}
-use Rattle.table.specs.Bearers.{transactionAt}
+use Rattle.table.specs.Bearers.{transactionAt, bearerCount}
 use borrow.Author.Needs.{needs}
 use Rattle.table.proofs.well_formed.transactions.Statement.{statement}
 use Rattle.table.proofs.well_formed.transactions.Tie as tie
 
 abbrev Inv-loop : tie.InvT-loop
-Inv-loop t all₀ i₀ all i = (i ≤ 11) × (all ≡ stored (transactionAt t) all₀ i)
+Inv-loop t all₀ i₀ all i = (i ≤ bearerCount) × (all ≡ stored (transactionAt t) all₀ i)
 
 abbrev μ-loop : tie.MeasureT-loop
-μ-loop t all₀ i₀ all i = 11 - i
+μ-loop t all₀ i₀ all i = bearerCount - i
 
 loop-holds : tie.Need-loop-holds Inv-loop μ-loop
 loop-holds c = (omega arith, stored-start _ _)
@@ -29,7 +29,7 @@ returns : tie.Need-returns Inv-loop μ-loop
 returns c =
     let a = c .before .before .args in
     let l = c .before .loop in
-    stored-done (transactionAt (a .t1)) _ 0 (l .i) 11 _ (length-replicate {A = ℕ} 11 0) (omega arith) (omega arith) (l .inv .1)
+    stored-done (transactionAt (a .t1)) _ 0 (l .i) bearerCount _ (length-replicate {A = ℕ} bearerCount 0) (omega arith) (omega arith) (l .inv .1)
 
 pub transactions-spec : {M : Type 1} → statement M
 transactions-spec =

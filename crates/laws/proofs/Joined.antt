@@ -8,12 +8,12 @@ use native.Mathlib.Nat.{not-suc-le-zero}
 use native.Mathlib.Omega.{arith}
 use lib.Dec.{eqb}
 use borrow.Author.Tests.{eqb-true, eq-eqb}
-use Rattle.laws.specs.Index.{SomeBelow}
+use Rattle.laws.specs.Index.{SomeBelow, joined}
 use Rattle.laws.specs.Lists.{All, isIn, repeats}
+use Rattle.laws.proofs.Lists.{all-append}
 use Rattle.laws.proofs.Tests.{either, or-left, or-right}
 use Rattle.laws.proofs.Says.{last, never}
 use Rattle.laws.proofs.Repeats.{no-repeat}
-use Rattle.table.specs.WellFormed.{joined}
 
 abbrev pub Fresh : List ℕ → Type 0
 Fresh xs = repeats xs ≡ false
@@ -82,11 +82,7 @@ module _ (piece : ℕ → List ℕ) where
   pub joined-all : (P : ℕ → Type 0) (n : ℕ) → ((i : ℕ) → i < n → All P (piece i)) → All P (joined piece n)
   unfolding joined
   joined-all P zero h = tt
-  joined-all P (suc n) h = append (joined piece n) (joined-all P n (λ i l. h i (omega arith)))
-    where
-      append : (xs : List ℕ) → All P xs → All P (xs ++ piece n)
-      append [] a = h n (omega arith)
-      append (x ∷ xs) a = (a .0, append xs (a .1))
+  joined-all P (suc n) h = all-append P (joined piece n) (piece n) (joined-all P n (λ i l. h i (omega arith))) (h n (omega arith))
 
   pub joined-in : (n x : ℕ) → In x (joined piece n) → SomeBelow n (λ i. In x (piece i))
   unfolding joined isIn

@@ -11,7 +11,7 @@ use Rattle.table.specs.declared.bearer.Role.the-variants.{Idle, Default,
 use Rattle.table.specs.declared.bearer.Bearer.{Bearer}
 use Rattle.table.specs.declared.bearer.Table.{Table}
 use Rattle.table.specs.declared.distinct.Marks.{Marks}
-use Rattle.table.specs.Bearers.{bearerCount, inRange, indexOf, bearerAt, roleAt, isIdle, isDefault}
+use Rattle.table.specs.Bearers.{bearerCount, isIdentity, indexOf, bearerAt, roleAt, isIdle, isDefault}
 use Rattle.table.specs.WellFormed.{transactionFine, filterFine}
 
 -- ---- one bearer, by which bearers are defaults
@@ -21,7 +21,7 @@ defaultAt t i = isDefault (roleAt t i)
 abbrev pub linkIn : List Bool → Role → Bool
 linkIn defaults Idle = true
 linkIn defaults Default = true
-linkIn defaults (Dedicated link) = inRange link && getD defaults (indexOf link) false
+linkIn defaults (Dedicated link) = isIdentity link && getD defaults (indexOf link) false
 
 unfoldable pub bearerIn : List Bool → Bearer → Bool
 bearerIn defaults b =
