@@ -1,24 +1,29 @@
 -- The theorems of the layer.
 use mathlib.Core.Path.{_≡_, refl, _∙_, ap}
 use mathlib.Core.Bool.{Bool, true, false, false≢true}
-use mathlib.Core.List.{List, _++_}
+use mathlib.Core.List.{List, [], _∷_, _++_}
+use mathlib.Core.Logic.{_⊎_, inl, inr}
 use Prim.Native.Nat.{ℕ}
 use native.Mathlib.Omega.{arith}
-use lib.Dec.{leb}
+use lib.Dec.{eqb, leb}
 use lib.ListN.{length, take, drop}
 use lib.Seq.{take-at}
-use Rattle.laws.specs.Says.{Says}
-use Rattle.laws.specs.Lists.{All}
+use Rattle.laws.specs.Says.{Says, pick}
+use Rattle.laws.specs.Lists.{All, every}
 use Rattle.filter.specs.declared.component.Filter.{Filter}
+use Rattle.element.specs.declared.answer.SetOperation.the-variants.{Create}
 use Rattle.element.specs.declared.answer.Answer.{Answer}
 use Rattle.element.specs.declared.answer.Answer.the-variants.{Filters, Identifiers, Bare, Refused}
 use Rattle.element.specs.declared.answer.Element.{Element}
-use Rattle.element.specs.declared.answer.Cause.the-variants.{Semantics}
+use Rattle.element.specs.declared.answer.Cause.{Cause}
+use Rattle.element.specs.declared.answer.Cause.the-variants.{Operation, Semantics, Coding}
 use Rattle.element.specs.declared.write.Written.the-variants.{Wrote}
 use Rattle.element.specs.Numbers.{numberOf}
-use Rattle.element.specs.Read.{refused, readValue, readElement}
+use Rattle.element.specs.Head.{longest, operationOf, create, extensionIn, countIn}
+use Rattle.element.specs.Framing.{Raw, Split, cut, split, splitOf, restFits, notFramed, filters, framedSplit, framedSet, framedBy, framedOf}
+use Rattle.element.specs.Read.{refused, fits, Entries, badly, coded, entriesOf, twice, filterSet, judgedEntries, judgedFrame, readValue, readElement}
 use Rattle.element.specs.Write.{octetsOf, givenBy, given, writtenBy, writeOf}
-use Rattle.element.specs.Meaning.{Octet, ElementInRange, ReadsAs, SomeFilterUnfit}
+use Rattle.element.specs.Meaning.{Octet, ElementInRange, ReadsAs, IsCause, SomeFilterUnfit}
 use Rattle.element.proofs.RoundTrip.{round, octets-octets}
 use Rattle.element.proofs.Given.{reads-given, semantics-says}
 
@@ -66,3 +71,44 @@ given-says e r =
 -- ---- cause 44 is given exactly where the value is framed, every filter is well coded, and some filter fits no packet
 pub unfit-says : (xs : List ℕ) → All Octet xs → (readElement xs ≡ refused Semantics → SomeFilterUnfit xs) × (SomeFilterUnfit xs → readElement xs ≡ refused Semantics)
 unfit-says = semantics-says
+
+-- ---- a value whose operation is create reads as a create or as a cause
+abbrev CreateOrCause : Answer → Type 0
+CreateOrCause a = (a ≡ Filters Create) ⊎ IsCause a
+
+a-cause : (cause : Cause) → CreateOrCause (refused cause .answer)
+a-cause cause = inr (record { refusal = record { cause = cause }; is = refl })
+
+entries-create : (es : Entries) → CreateOrCause (judgedEntries Create es .answer)
+entries-create badly = a-cause Coding
+entries-create (coded es) = go (every fits es) (twice es)
+  where
+    go : (b c : Bool) → CreateOrCause (pick b (pick c (refused Coding) (filterSet Create es)) (refused Semantics) .answer)
+    go true true = a-cause Coding
+    go true false = inl refl
+    go false c = a-cause Semantics
+
+set-create : (e n : ℕ) (xs : List ℕ) → CreateOrCause (judgedFrame (framedSet Create e n xs) .answer)
+set-create e n xs = go (eqb n 0) (splitOf n xs)
+  where
+    rest : (b : Bool) (rs : List Raw) → CreateOrCause (judgedFrame (pick b (filters Create rs) notFramed) .answer)
+    rest true rs = entries-create (entriesOf rs)
+    rest false rs = a-cause Operation
+
+    go : (b : Bool) (q : Split) → CreateOrCause (judgedFrame (pick b notFramed (framedSplit Create e q)) .answer)
+    go true q = a-cause Operation
+    go false cut = a-cause Operation
+    go false (split rs r) = rest (restFits e r) rs
+
+value-create : (xs : List ℕ) → operationOf xs ≡ create → CreateOrCause (readValue xs .answer)
+unfolding readValue framedOf framedBy
+value-create [] h = absurd (omega arith)
+value-create (x ∷ xs) h = rw h (set-create (extensionIn x) (countIn x) xs)
+
+pub create-reads : (xs : List ℕ) → operationOf xs ≡ create → (readElement xs .answer ≡ Filters Create) ⊎ IsCause (readElement xs .answer)
+unfolding readElement
+create-reads xs h = go (leb (length xs) longest)
+  where
+    go : (b : Bool) → CreateOrCause (pick b (readValue xs) (refused Operation) .answer)
+    go true = value-create xs h
+    go false = a-cause Operation

@@ -9,6 +9,9 @@ use Rattle.filter.specs.declared.component.Filter.{Filter}
 use Rattle.filter.specs.Ranges.{FilterInRange}
 use Rattle.filter.specs.Fittable.{SomePacketFits}
 use Rattle.element.specs.declared.answer.SetOperation.{SetOperation}
+use Rattle.element.specs.declared.answer.Refusal.{Refusal}
+use Rattle.element.specs.declared.answer.Answer.{Answer}
+use Rattle.element.specs.declared.answer.Answer.the-variants.{Refused}
 use Rattle.element.specs.declared.answer.Element.{Element}
 use Rattle.element.specs.Head.{longest}
 use Rattle.element.specs.Numbers.{numberOf}
@@ -30,6 +33,11 @@ pub record ReadsAs (e : Element) : Type 0 where
   pub each : All Octet octets
   pub reads : readValue octets ≡ e
   pub operation : numberOf (e .answer) ≡ 0
+
+-- an answer that is a cause
+pub record IsCause (answer : Answer) : Type 0 where
+  pub refusal : Refusal
+  pub is : answer ≡ Refused refusal
 
 abbrev pub NoPacketFits : Entry → Type 0
 NoPacketFits e = SomePacketFits (e .filter) → ⊥
