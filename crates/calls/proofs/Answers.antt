@@ -14,6 +14,7 @@ use Rattle.element.specs.declared.answer.BareOperation.the-variants.{DeleteTft,
 use Rattle.element.specs.declared.answer.Answer.{Answer as ReadAnswer}
 use Rattle.element.specs.declared.answer.Answer.the-variants.{Filters, Identifiers, Bare, Refused as readRefused}
 use Rattle.element.specs.declared.answer.Element.{Element}
+use Rattle.element.specs.Numbers.{Verdict, accepted, refusedFor, verdictOn}
 use Rattle.element.specs.Read.{readElement}
 use Rattle.table.specs.declared.bearer.Role.the-variants.{Dedicated}
 use Rattle.table.specs.declared.bearer.Table.{Table}
@@ -22,10 +23,10 @@ use Rattle.table.specs.WellFormed.{wellFormed}
 use Rattle.calls.specs.declared.reply.Outcome.{Outcome}
 use Rattle.calls.specs.Reply.{causeNumber, numberOf, causeOf}
 use Rattle.calls.specs.Steps.{isOpen, closed, openedView, empties}
-use Rattle.calls.specs.Lay.{laid}
+use Rattle.calls.specs.Lay.{layOf}
 use Rattle.element.specs.Head.{operationOf, headFine}
 use Rattle.calls.specs.Modify.{mismatch, creates, deleteFilters, deletedTft, modifiedBy, modifyRead, modifyNamed, modifyOf}
-use Rattle.calls.specs.Others.{free, activateDefaultOf, activatedBy, activateRead, activateNamed, activateDedicatedOf, deactivateOf, rejectOf, startOf}
+use Rattle.calls.specs.Others.{unused, activateDefaultOf, activatedBy, activateRead, activateNamed, activateDedicatedOf, deactivateOf, rejectOf, startOf}
 use Rattle.calls.specs.Changes.{Gives}
 use Rattle.calls.proofs.Theorems.{laid-number}
 
@@ -43,7 +44,7 @@ cause-in Operation = refl
 cause-in Semantics = refl
 cause-in Coding = refl
 
-laid-gives : (t : Table) (bearer : ℕ) (new : List Filter) (create : Bool) → Gives causes (laid t bearer new create)
+laid-gives : (t : Table) (bearer : ℕ) (new : List Filter) (create : Bool) → Gives causes (layOf t bearer new create)
 unfolding isIn
 laid-gives t bearer new create = subst (λ (n : ℕ). isIn n causes ≡ true) (sym (laid-number t bearer new create)) refl
 
@@ -55,12 +56,9 @@ modified-gives Identifiers t bearer e = pick-gives (isDedicated (roleOf t bearer
 modified-gives (Bare DeleteTft) t bearer e = refl
 modified-gives (Bare NoOperation) t bearer e = refl
 
-activated-gives : (a : ReadAnswer) (t : Table) (bearer link : ℕ) (e : Element) → Gives causes (activatedBy a t bearer link e)
-unfolding isIn
-activated-gives (readRefused refusal) t bearer link e = cause-in (refusal .cause)
-activated-gives (Filters operation) t bearer link e = laid-gives (build (openedView t (indexOf bearer) (Dedicated link))) bearer (e .filters) true
-activated-gives Identifiers t bearer link e = refl
-activated-gives (Bare operation) t bearer link e = refl
+activated-gives : (v : Verdict) (t : Table) (bearer link : ℕ) (new : List Filter) → Gives causes (activatedBy v t bearer link new)
+activated-gives (refusedFor refusal) t bearer link new = cause-in (refusal .cause)
+activated-gives accepted t bearer link new = laid-gives (build (openedView t (indexOf bearer) (Dedicated link))) bearer new true
 
 module _ (t : Table) where
   pub modify-gives : (bearer x : ℕ) (value : List ℕ) → Gives causes (modifyOf t bearer x value)
@@ -80,15 +78,15 @@ module _ (t : Table) where
       let s = closed t x in
       pick-gives (wellFormed t) causes _ _
       (pick-gives (mismatch t x) causes _ _ refl
-      (pick-gives (free s bearer && isDefault (roleOf s link)) causes _ _
+      (pick-gives (unused s bearer && isDefault (roleOf s link)) causes _ _
       (pick-gives (headFine value) causes _ _
-      (pick-gives (eqb (operationOf value) 1) causes _ _ (activated-gives (readElement value .answer) s bearer link (readElement value)) refl) refl) refl)) refl
+      (pick-gives (eqb (operationOf value) 1) causes _ _ (activated-gives (verdictOn (readElement value .answer)) s bearer link (readElement value .filters)) refl) refl) refl)) refl
 
   pub activate-default-gives : (bearer : ℕ) → Gives (0 ∷ 1 ∷ 43 ∷ []) (activateDefaultOf t bearer)
   unfolding isIn activateDefaultOf
   activate-default-gives bearer =
       let ns : List ℕ = 0 ∷ 1 ∷ 43 ∷ [] in
-      pick-gives (wellFormed t) ns _ _ (pick-gives (free t bearer) ns _ _ refl refl) refl
+      pick-gives (wellFormed t) ns _ _ (pick-gives (unused t bearer) ns _ _ refl refl) refl
 
   pub deactivate-gives : (bearer x : ℕ) → Gives (0 ∷ 1 ∷ []) (deactivateOf t bearer x)
   unfolding isIn deactivateOf

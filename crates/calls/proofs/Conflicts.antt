@@ -23,7 +23,7 @@ use Rattle.filter.specs.Sizes.{placeCount, precedenceCount}
 use Rattle.filter.specs.Build.{emptyFilter}
 use Rattle.table.specs.Bearers.{bearerCount, inRow, roleAt, bearerAt, identityOf, isDefault, isDedicated}
 use Rattle.calls.specs.Steps.{ofConnection}
-use Rattle.calls.specs.Lay.{old, takenBy, takes, conflict, placed, conflictIn, loses, placedIn, losesAt, frees, follows, released, followers}
+use Rattle.calls.specs.Lay.{old, takenBy, takes, conflict, placed, conflictIn, loses, placedIn, losesAt, conflictOnDefault, follows, released, followers}
 
 -- ---- tests by index
 any-none : (p : ℕ → Bool) (n : ℕ) → ((i : ℕ) → p i ≡ false) → anyBelow p n ≡ false
@@ -185,9 +185,9 @@ module _ (new : List Filter) (create : Bool) where
 
       module _ (roles : List Role) (er : roles ≡ tab (roleAt t) bearerCount) where
         pub released-by : anyBelow (λ i. isDefault (getD roles i Idle) && getD lost i false) bearerCount ≡ released new create t k connection
-        unfolding released frees
+        unfolding released conflictOnDefault
         released-by =
-            any-same (λ i. isDefault (getD roles i Idle) && getD lost i false) (frees new create t k connection) bearerCount
+            any-same (λ i. isDefault (getD roles i Idle) && getD lost i false) (conflictOnDefault new create t k connection) bearerCount
             (λ i l. rw (role-at t roles er i l, lost-at i l))
 
         pub followers-by : picks (λ i. isDedicated (getD roles i Idle) && getD lost i false) identityOf bearerCount ≡ followers new create t k connection

@@ -36,14 +36,14 @@ use Rattle.calls.specs.declared.reply.Answer.the-variants.{Accept, Rejec
 use Rattle.calls.specs.declared.reply.Cause.the-variants.{TftSyntax, BearerIdentity, Transaction}
 use Rattle.calls.specs.declared.reply.FollowUps.{FollowUps}
 use Rattle.calls.specs.declared.reply.Outcome.{Outcome}
-use Rattle.calls.specs.Reply.{followOf, answered, rejected}
+use Rattle.calls.specs.Reply.{followOf, answered, rejectedWith}
 use Rattle.calls.specs.Steps.{opensAt, closedView, closed, cutView, ofConnection, deletedIn, deletedView, empties}
-use Rattle.calls.specs.Lay.{old, conflict, placed, conflictIn, loses, placedIn, losesAt, frees, follows, laidView, released, followers, otherAt, onlyConnection, laidBy, laidOn, laid}
+use Rattle.calls.specs.Lay.{old, conflict, placed, conflictIn, loses, placedIn, losesAt, conflictOnDefault, follows, laidView, released, followers, otherAt, onlyConnection, layOrRelease, layWithin, layOf}
 use Rattle.element.specs.Head.{operationOf, headFine}
 use Rattle.calls.specs.Modify.{malformed, mismatch, creates, deleteFilters, deletedTft, modifiedBy, modifyRead, modifyNamed, modifyOf}
 use Rattle.calls.proofs.Views.{bearer-built, role-built, transaction-built, filter-built}
 use Rattle.calls.specs.Changes.{Listed, Lists, IsDedicated, Only, IsRelease, Taken, home, TakenAt, Trimmed, Conflict, Loses, Closing, Stays, Shortened, Void, Gone, Unnamed, stays, shortened, gone, Brings, Notes}
-use Rattle.calls.proofs.Kept.{no-held, closed-well, of-says, conflict-says, active-at}
+use Rattle.calls.proofs.Preserved.{no-held, closed-well, of-says, conflict-says, active-at}
 
 -- ---- a follow-up list
 module _ (p : ℕ → Bool) (P : ℕ → Type 0) (says : (i : ℕ) → i < bearerCount → Says (p i) (P i)) where
@@ -122,8 +122,8 @@ module _ (t : Table) (bearer : ℕ) (new : List Filter) where
   taken-says i j = conflict-says new (of-says t (home t bearer) i) (filterAt t i j)
 
   module _ (create : Bool) where
-    abbrev pub freed : Bool
-    freed = released new create t (indexOf bearer) (home t bearer)
+    abbrev pub releases : Bool
+    releases = released new create t (indexOf bearer) (home t bearer)
 
     abbrev laidHere : View
     laidHere = laidView new create t (indexOf bearer) (home t bearer)
@@ -131,9 +131,9 @@ module _ (t : Table) (bearer : ℕ) (new : List Filter) where
     abbrev cutHere : View
     cutHere = cutView t (ofConnection t (home t bearer))
 
-    laid-by : (b : Bool) → freed ≡ b → laid t bearer new create ≡ laidBy b t bearer (home t bearer) new create
-    unfolding laid laidOn
-    laid-by b h = ap (λ (b : Bool). laidBy b t bearer (home t bearer) new create) h
+    laid-by : (b : Bool) → releases ≡ b → layOf t bearer new create ≡ layOrRelease b t bearer (home t bearer) new create
+    unfolding layOf layWithin
+    laid-by b h = ap (λ (b : Bool). layOrRelease b t bearer (home t bearer) new create) h
 
     -- THE FOLLOW-UPS
     pub conflict-at : (i j : ℕ) → Says (conflictIn new create (eqb i (indexOf bearer)) (ofConnection t (home t bearer) i) (bearerAt t i .row) j) (Conflict t bearer new create i j)
@@ -158,12 +158,12 @@ module _ (t : Table) (bearer : ℕ) (new : List Filter) where
     loses-says i = says-and (dedicated-says (roleAt t i)) (loses-at i)
 
     -- the connection is released exactly where its default loses a filter
-    pub freed-says : Says freed (SomeBelow bearerCount (λ i. (roleAt t i ≡ Default) × SomeBelow placeCount (Conflict t bearer new create i)))
-    unfolding released frees
-    freed-says = says-any bearerCount (λ i l. says-and (default-says (roleAt t i)) (loses-at i))
+    pub releases-says : Says releases (SomeBelow bearerCount (λ i. (roleAt t i ≡ Default) × SomeBelow placeCount (Conflict t bearer new create i)))
+    unfolding released conflictOnDefault
+    releases-says = says-any bearerCount (λ i l. says-and (default-says (roleAt t i)) (loses-at i))
 
     -- where it stays, the list is exactly the dedicated bearers of the connection that lose a filter
-    pub follow-ups : freed ≡ false → Lists (Loses t bearer new create) (laid t bearer new create .reply .follow)
+    pub follow-ups : releases ≡ false → Lists (Loses t bearer new create) (layOf t bearer new create .reply .follow)
     unfolding followers
     follow-ups h =
         subst (λ (o : Outcome). Lists (Loses t bearer new create) (o .reply .follow)) (sym (laid-by false h))
@@ -179,17 +179,17 @@ module _ (t : Table) (bearer : ℕ) (new : List Filter) where
     other-stays i j n q = other i j n ∙ ap (λ (b : Bool). pick b emptyFilter (filterAt t i j)) (says-no (taken-says i j) q)
 
     -- who loses a filter is active, and no default, else the connection would be released
-    loser : WellFormed t → freed ≡ false → (i : ℕ) → i < bearerCount → SomeBelow placeCount (Conflict t bearer new create i) → IsDedicated t i
+    loser : WellFormed t → releases ≡ false → (i : ℕ) → i < bearerCount → SomeBelow placeCount (Conflict t bearer new create i) → IsDedicated t i
     loser w h i l c = go (roleAt t i) refl
       where
         go : (r : Role) → roleAt t i ≡ r → IsDedicated t i
         go Idle e = no-held (filterAt t i (c .at)) (w .empty i (c .at) l (c .below) e) (c .holds .1 .0 .1)
-        go Default e = absurd (says-ne freed-says h (record { at = i; below = l; holds = (e, c) }))
+        go Default e = absurd (says-ne releases-says h (record { at = i; below = l; holds = (e, c) }))
         go (Dedicated link) e = (link, e)
 
-    pub frame : WellFormed t → freed ≡ false → (i : ℕ) → i < bearerCount → (i ≡ indexOf bearer → ⊥) → Frame (laid t bearer new create) i
+    pub frame : WellFormed t → releases ≡ false → (i : ℕ) → i < bearerCount → (i ≡ indexOf bearer → ⊥) → Frame (layOf t bearer new create) i
     frame w h i l n =
-        let at : (j : ℕ) → j < placeCount → filterAt (laid t bearer new create .table) i j ≡ laidHere .filter i j =
+        let at : (j : ℕ) → j < placeCount → filterAt (layOf t bearer new create .table) i j ≡ laidHere .filter i j =
         λ j m. ap (λ (o : Outcome). filterAt (o .table) i j) (laid-by false h) ∙ filter-built laidHere i l j m in
         record {
           role = ap (λ (o : Outcome). roleAt (o .table) i) (laid-by false h) ∙ role-built laidHere i l;
@@ -204,7 +204,7 @@ module _ (t : Table) (bearer : ℕ) (new : List Filter) where
         }
 
     -- THE RELEASE. Every bearer of the connection is idle, with no transaction and no filters
-    pub released-void : freed ≡ true → (i : ℕ) → i < bearerCount → connectionAt t i ≡ home t bearer → Void (view (laid t bearer new create .table)) i
+    pub released-void : releases ≡ true → (i : ℕ) → i < bearerCount → connectionAt t i ≡ home t bearer → Void (view (layOf t bearer new create .table)) i
     released-void h i l e =
         let g = of-says t (home t bearer) i .from e in
         subst (λ (o : Outcome). Void (view (o .table)) i) (sym (laid-by true h))
@@ -214,29 +214,29 @@ module _ (t : Table) (bearer : ℕ) (new : List Filter) where
           filter = λ j m. filter-built cutHere i l j m ∙ ap (λ (b : Bool). pick b emptyFilter (filterAt t i j)) g;
         })
 
-    pub released-answer : freed ≡ true → IsRelease t (home t bearer) (laid t bearer new create .reply .answer)
+    pub released-answer : releases ≡ true → IsRelease t (home t bearer) (layOf t bearer new create .reply .answer)
     released-answer h =
         subst (λ (o : Outcome). IsRelease t (home t bearer) (o .reply .answer)) (sym (laid-by true h)) (release-picked t (home t bearer))
 
-    pub released-none : freed ≡ true → laid t bearer new create .reply .follow ≡ followOf []
+    pub released-none : releases ≡ true → layOf t bearer new create .reply .follow ≡ followOf []
     released-none h = ap (λ (o : Outcome). o .reply .follow) (laid-by true h)
 
     -- where it stays, a bearer that loses nothing is as it was
-    pub untouched : freed ≡ false → (i : ℕ) → i < bearerCount → length (bearerAt t i .row) ≡ placeCount → (i ≡ indexOf bearer → ⊥)
-        → (SomeBelow placeCount (TakenAt t bearer new i) → ⊥) → bearerAt (laid t bearer new create .table) i ≡ bearerAt t i
+    pub untouched : releases ≡ false → (i : ℕ) → i < bearerCount → length (bearerAt t i .row) ≡ placeCount → (i ≡ indexOf bearer → ⊥)
+        → (SomeBelow placeCount (TakenAt t bearer new i) → ⊥) → bearerAt (layOf t bearer new create .table) i ≡ bearerAt t i
     untouched h i l long ne n =
         ap (λ (o : Outcome). bearerAt (o .table) i) (laid-by false h)
         ∙ bearer-as t laidHere i l long (λ j m. other-stays i j ne (λ q. n (record { at = j; below = m; holds = q }))) refl refl
 
     -- OTHER CONNECTIONS. Their bearers are as they were, released or not
     pub others : (i : ℕ) → i < bearerCount → length (bearerAt t i .row) ≡ placeCount → (connectionAt t i ≡ home t bearer → ⊥)
-        → bearerAt (laid t bearer new create .table) i ≡ bearerAt t i
-    others i l long n = go freed refl
+        → bearerAt (layOf t bearer new create .table) i ≡ bearerAt t i
+    others i l long n = go releases refl
       where
         g : ofConnection t (home t bearer) i ≡ false
         g = says-no (of-says t (home t bearer) i) n
 
-        go : (b : Bool) → freed ≡ b → bearerAt (laid t bearer new create .table) i ≡ bearerAt t i
+        go : (b : Bool) → releases ≡ b → bearerAt (layOf t bearer new create .table) i ≡ bearerAt t i
         go true h =
             ap (λ (o : Outcome). bearerAt (o .table) i) (laid-by true h)
             ∙ bearer-as t cutHere i l long (λ j m. ap (λ (b : Bool). pick b emptyFilter (filterAt t i j)) g) (ap (λ (b : Bool). pick b Idle (roleAt t i)) g)
@@ -338,19 +338,19 @@ module _ (t s : Table) (x : ℕ) (same : (i : ℕ) → i < bearerCount → Stays
 
   -- the named bearer is in range
   module _ (b : indexOf bearer < bearerCount) (n : i ≡ indexOf bearer → ⊥) where
-    ways-laid : (create : Bool) → Ways (laid s bearer new create)
-    ways-laid create = go (freed s bearer new create) refl
+    ways-laid : (create : Bool) → Ways (layOf s bearer new create)
+    ways-laid create = go (releases s bearer new create) refl
       where
         loses-says : Says (anyBelow (λ j. conflict new (ofConnection s (home s bearer) i) (filterAt s i j)) placeCount) (SomeBelow placeCount (TakenAt s bearer new i))
         loses-says = says-any placeCount (λ j m. taken-says s bearer new i j)
 
-        short : freed s bearer new create ≡ false → SomeBelow placeCount (TakenAt s bearer new i) → Shortened t bearer x new (laid s bearer new create) i
+        short : releases s bearer new create ≡ false → SomeBelow placeCount (TakenAt s bearer new i) → Shortened t bearer x new (layOf s bearer new create) i
         short h q =
             let f = frame s bearer new create w h i l n in
             let d = f .listed q in
             record {
               role = f .role ∙ same i l .role;
-              transaction = closing-on t s (laid s bearer new create .table) x i (f .transaction) (same i l .transaction);
+              transaction = closing-on t s (layOf s bearer new create .table) x i (f .transaction) (same i l .transaction);
               filters = record {
                 lost = λ j m z. f .filters .lost j m (taken-as (back alike) bearer b new i l j z);
                 stays = λ j m z. f .filters .stays j m (λ z′. z (taken-as alike bearer b new i l j z′)) ∙ filter-as alike i l j;
@@ -361,23 +361,23 @@ module _ (t s : Table) (x : ℕ) (same : (i : ℕ) → i < bearerCount → Stays
               answer = ap (λ (o : Outcome). o .reply .answer) (laid-by s bearer new create false h);
             }
 
-        void : freed s bearer new create ≡ true → connectionAt s i ≡ home s bearer → Gone t bearer (laid s bearer new create) i
+        void : releases s bearer new create ≡ true → connectionAt s i ≡ home s bearer → Gone t bearer (layOf s bearer new create) i
         void h e =
             record {
               connection = sym (connection-as alike i l) ∙ e ∙ connection-as alike (indexOf bearer) b;
               void = released-void s bearer new create h i l e;
-              answer = release-as alike (laid s bearer new create .reply .answer) (connection-as alike (indexOf bearer) b) (released-answer s bearer new create h);
+              answer = release-as alike (layOf s bearer new create .reply .answer) (connection-as alike (indexOf bearer) b) (released-answer s bearer new create h);
             }
 
-        go : (r : Bool) → freed s bearer new create ≡ r → Ways (laid s bearer new create)
+        go : (r : Bool) → releases s bearer new create ≡ r → Ways (layOf s bearer new create)
         go true h =
             ⊎-elim (λ e. gone (void h (of-says s (home s bearer) i .to e))) (λ e. stays
-            (stays-on t s (laid s bearer new create .table) x i (others s bearer new create i l row-long (says-ne (of-says s (home s bearer) i) e)) (same i l))
+            (stays-on t s (layOf s bearer new create .table) x i (others s bearer new create i l row-long (says-ne (of-says s (home s bearer) i) e)) (same i l))
             (λ q. not-suc-le-zero (subst (λ (f : FollowUps). Listed f i) (released-none s bearer new create h) q .below)))
             (which (ofConnection s (home s bearer) i))
         go false h =
             ⊎-elim (λ e. shortened (short h (loses-says .to e))) (λ e. let none = says-ne loses-says e in stays
-            (stays-on t s (laid s bearer new create .table) x i (untouched s bearer new create h i l row-long n none) (same i l))
+            (stays-on t s (layOf s bearer new create .table) x i (untouched s bearer new create h i l row-long n none) (same i l))
             (unlisted (follow-ups s bearer new create h) i (λ q. none (record { at = q .1 .at; below = q .1 .below; holds = q .1 .holds .1 }))))
             (which (anyBelow (λ j. conflict new (ofConnection s (home s bearer) i) (filterAt s i j)) placeCount))
 
@@ -404,7 +404,7 @@ module _ (t s : Table) (x : ℕ) (same : (i : ℕ) → i < bearerCount → Stays
   ways-named = go (isIdle (roleOf s bearer)) refl
     where
       go : (r : Bool) → isIdle (roleOf s bearer) ≡ r
-          → Ways (pick r (rejected s bearer BearerIdentity) (pick (headFine value) (modifyRead s bearer value) (rejected s bearer TftSyntax)))
+          → Ways (pick r (rejectedWith s bearer BearerIdentity) (pick (headFine value) (modifyRead s bearer value) (rejectedWith s bearer TftSyntax)))
       go true e = ways-as s _ refl
       go false e =
           let a = active-at s bearer e in
@@ -426,7 +426,7 @@ module _ (t : Table) (ok : TableInRange t) (bearer x : ℕ) (value : List ℕ) (
       self : (a : Answer) → WaysOf (answered t a)
       self a = stays (stays-self t x i) (λ q. not-suc-le-zero (q .below))
 
-      go : (r : Bool) → wellFormed t ≡ r → WaysOf (pick r (pick (mismatch t x) (rejected t bearer Transaction) (modifyNamed (closed t x) bearer value)) (malformed t))
+      go : (r : Bool) → wellFormed t ≡ r → WaysOf (pick r (pick (mismatch t x) (rejectedWith t bearer Transaction) (modifyNamed (closed t x) bearer value)) (malformed t))
       go true e =
           either-way WaysOf (mismatch t x) _ _ (self _)
           (ways-named t (closed t x) x (λ k m. closed-stays t x k m (long k m)) long (closed-well t (well-says t ok .to e) x) bearer i l n value)
@@ -467,21 +467,21 @@ module _ (t s : Table) (same : Alike t s) (bearer : ℕ) (value : List ℕ) wher
   without u a n = nobody t bearer value (answered u a) (λ operation h. n operation (h .0)) refl
 
   module _ (b : indexOf bearer < bearerCount) where
-    notes-laid : (operation : SetOperation) → readElement value .answer ≡ Filters operation → Notes t bearer value (laid s bearer brought (creates operation))
-    notes-laid operation e = go (freed s bearer brought (creates operation)) refl
+    notes-laid : (operation : SetOperation) → readElement value .answer ≡ Filters operation → Notes t bearer value (layOf s bearer brought (creates operation))
+    notes-laid operation e = go (releases s bearer brought (creates operation)) refl
       where
         no-accept : (a : Answer) → IsRelease s (home s bearer) a → a ≡ Accept bearer → ⊥
         no-accept a h q = ⊎-elim (λ r. never (ap isAccept q) (ap isAccept (r .1))) (λ r. never (ap isAccept q) (ap isAccept (r .1))) h
 
-        go : (r : Bool) → freed s bearer brought (creates operation) ≡ r → Notes t bearer value (laid s bearer brought (creates operation))
+        go : (r : Bool) → releases s bearer brought (creates operation) ≡ r → Notes t bearer value (layOf s bearer brought (creates operation))
         go true h =
-            nobody t bearer value (laid s bearer brought (creates operation))
-            (λ operation′ q. no-accept (laid s bearer brought (creates operation) .reply .answer) (released-answer s bearer brought (creates operation) h) (q .1))
+            nobody t bearer value (layOf s bearer brought (creates operation))
+            (λ operation′ q. no-accept (layOf s bearer brought (creates operation) .reply .answer) (released-answer s bearer brought (creates operation) h) (q .1))
             (released-none s bearer brought (creates operation) h)
         go false h =
             record {
               listed = λ operation′ q. let z : operation ≡ operation′ = cc in
-                  subst (λ (p : SetOperation). Lists (Loses t bearer brought (creates p)) (laid s bearer brought (creates operation) .reply .follow)) z
+                  subst (λ (p : SetOperation). Lists (Loses t bearer brought (creates p)) (layOf s bearer brought (creates operation) .reply .follow)) z
                   (lists-as (λ i l. loses-as same bearer b brought i l (creates operation)) (λ i l. loses-as (back same) bearer b brought i l (creates operation))
                   (follow-ups s bearer brought (creates operation) h));
               none = λ n. absurd (n operation (e, ap (λ (o : Outcome). o .reply .answer) (laid-by s bearer brought (creates operation) false h)));
@@ -502,7 +502,7 @@ module _ (t s : Table) (same : Alike t s) (bearer : ℕ) (value : List ℕ) wher
   notes-named = go (isIdle (roleOf s bearer)) refl
     where
       go : (r : Bool) → isIdle (roleOf s bearer) ≡ r
-          → Notes t bearer value (pick r (rejected s bearer BearerIdentity) (pick (headFine value) (modifyRead s bearer value) (rejected s bearer TftSyntax)))
+          → Notes t bearer value (pick r (rejectedWith s bearer BearerIdentity) (pick (headFine value) (modifyRead s bearer value) (rejectedWith s bearer TftSyntax)))
       go true e = refuses s _ refl
       go false e =
           let a = active-at s bearer e in

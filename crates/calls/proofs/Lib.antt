@@ -1,7 +1,7 @@
 pub mod Typed
 pub mod Rows
 pub mod Views
-pub mod Kept
+pub mod Preserved
 pub mod Whole
 pub mod Laying
 pub mod Theorems

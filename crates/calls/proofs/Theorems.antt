@@ -10,6 +10,7 @@ use Rattle.element.specs.declared.answer.BareOperation.the-variants.{DeleteTft,
 use Rattle.element.specs.declared.answer.Answer.{Answer as ReadAnswer}
 use Rattle.element.specs.declared.answer.Answer.the-variants.{Filters, Identifiers, Bare, Refused as readRefused}
 use Rattle.element.specs.declared.answer.Element.{Element}
+use Rattle.element.specs.Numbers.{Verdict, accepted, refusedFor, verdictOn}
 use Rattle.element.specs.Read.{readElement}
 use Rattle.table.specs.declared.bearer.Role.the-variants.{Dedicated}
 use Rattle.table.specs.declared.bearer.Table.{Table}
@@ -18,13 +19,13 @@ use Rattle.table.specs.WellFormed.{wellFormed}
 use Rattle.calls.specs.declared.reply.Cause.the-variants.{Transaction}
 use Rattle.calls.specs.declared.reply.Answer.the-variants.{Release, Reattach}
 use Rattle.calls.specs.declared.reply.Outcome.{Outcome}
-use Rattle.calls.specs.Reply.{numberOf, rejected}
-use Rattle.calls.specs.Changes.{Refuses, Keeps}
+use Rattle.calls.specs.Reply.{numberOf, rejectedWith}
+use Rattle.calls.specs.Changes.{Refuses, RefusalLeaves}
 use Rattle.calls.specs.Steps.{isOpen, closed, openedView, empties}
-use Rattle.calls.specs.Lay.{released, onlyConnection, laidBy, laidOn, laid}
+use Rattle.calls.specs.Lay.{released, onlyConnection, layOrRelease, layWithin, layOf}
 use Rattle.element.specs.Head.{operationOf, headFine}
 use Rattle.calls.specs.Modify.{malformed, mismatch, creates, deleteFilters, deletedTft, modifiedBy, modifyRead, modifyNamed, modifyOf}
-use Rattle.calls.specs.Others.{free, activateDefaultOf, activatedBy, activateRead, activateNamed, activateDedicatedOf, deactivateOf, rejectOf, startOf}
+use Rattle.calls.specs.Others.{unused, activateDefaultOf, activatedBy, activateRead, activateNamed, activateDedicatedOf, deactivateOf, rejectOf, startOf}
 
 -- ---- a table that is not well formed: every call gives 1 and hands it back as it was
 module _ (t : Table) (e : wellFormed t ≡ false) where
@@ -53,9 +54,9 @@ module _ (t : Table) (e : wellFormed t ≡ false) where
   start-malformed x bearer = rw e
 
 -- ---- every refusal leaves the table as it was, but for the transaction matched at step 2
-pick-keeps : (b : Bool) (t : Table) (o p : Outcome) → Keeps t o → Keeps t p → Keeps t (pick b o p)
-pick-keeps true t o p k l = k
-pick-keeps false t o p k l = l
+pick-leaves : (b : Bool) (t : Table) (o p : Outcome) → RefusalLeaves t o → RefusalLeaves t p → RefusalLeaves t (pick b o p)
+pick-leaves true t o p k l = k
+pick-leaves false t o p k l = l
 
 -- laying filters refuses nothing
 release-number : (b : Bool) (connection : ℕ) → numberOf (pick b Reattach (Release connection)) ≡ 0
@@ -63,106 +64,103 @@ release-number true connection = refl
 release-number false connection = refl
 
 laid-by-number : (b : Bool) (t : Table) (bearer connection : ℕ) (new : List Filter) (create : Bool)
-    → numberOf (laidBy b t bearer connection new create .reply .answer) ≡ 0
+    → numberOf (layOrRelease b t bearer connection new create .reply .answer) ≡ 0
 laid-by-number true t bearer connection new create = release-number (onlyConnection t connection) connection
 laid-by-number false t bearer connection new create = refl
 
-pub laid-number : (t : Table) (bearer : ℕ) (new : List Filter) (create : Bool) → numberOf (laid t bearer new create .reply .answer) ≡ 0
-unfolding laid laidOn
+pub laid-number : (t : Table) (bearer : ℕ) (new : List Filter) (create : Bool) → numberOf (layOf t bearer new create .reply .answer) ≡ 0
+unfolding layOf layWithin
 laid-number t bearer new create =
     let connection = connectionAt t (indexOf bearer) in
     laid-by-number (released new create t (indexOf bearer) connection) t bearer connection new create
 
 -- modify, from the last step to the first
-delete-filters-keeps : (t : Table) (bearer : ℕ) (marks : List Bool) → Keeps t (deleteFilters t bearer marks)
+delete-filters-leaves : (t : Table) (bearer : ℕ) (marks : List Bool) → RefusalLeaves t (deleteFilters t bearer marks)
 unfolding deleteFilters
-delete-filters-keeps t bearer marks =
-    pick-keeps (isDedicated (roleOf t bearer) && empties t (indexOf bearer) marks) t _ _ (λ r. refl) (λ r. absurd (r refl))
+delete-filters-leaves t bearer marks =
+    pick-leaves (isDedicated (roleOf t bearer) && empties t (indexOf bearer) marks) t _ _ (λ r. refl) (λ r. absurd (r refl))
 
-modified-by-keeps : (a : ReadAnswer) (t : Table) (bearer : ℕ) (e : Element) → Keeps t (modifiedBy a t bearer e)
+modified-by-leaves : (a : ReadAnswer) (t : Table) (bearer : ℕ) (e : Element) → RefusalLeaves t (modifiedBy a t bearer e)
 unfolding deletedTft
-modified-by-keeps (readRefused refusal) t bearer e r = refl
-modified-by-keeps (Filters operation) t bearer e r = absurd (r (laid-number t bearer (e .filters) (creates operation)))
-modified-by-keeps Identifiers t bearer e r = delete-filters-keeps t bearer (e .marks) r
-modified-by-keeps (Bare DeleteTft) t bearer e r = absurd (r refl)
-modified-by-keeps (Bare NoOperation) t bearer e r = refl
+modified-by-leaves (readRefused refusal) t bearer e r = refl
+modified-by-leaves (Filters operation) t bearer e r = absurd (r (laid-number t bearer (e .filters) (creates operation)))
+modified-by-leaves Identifiers t bearer e r = delete-filters-leaves t bearer (e .marks) r
+modified-by-leaves (Bare DeleteTft) t bearer e r = absurd (r refl)
+modified-by-leaves (Bare NoOperation) t bearer e r = refl
 
-modify-read-keeps : (t : Table) (bearer : ℕ) (value : List ℕ) → Keeps t (modifyRead t bearer value)
+modify-read-leaves : (t : Table) (bearer : ℕ) (value : List ℕ) → RefusalLeaves t (modifyRead t bearer value)
 unfolding modifyRead
-modify-read-keeps t bearer value =
-    pick-keeps
+modify-read-leaves t bearer value =
+    pick-leaves
     (isDedicated (roleOf t bearer) && eqb (operationOf value) 2) t _ _ (λ r. refl)
-    (modified-by-keeps (readElement value .answer) t bearer (readElement value))
+    (modified-by-leaves (readElement value .answer) t bearer (readElement value))
 
-modify-named-keeps : (t : Table) (bearer : ℕ) (value : List ℕ) → Keeps t (modifyNamed t bearer value)
+modify-named-leaves : (t : Table) (bearer : ℕ) (value : List ℕ) → RefusalLeaves t (modifyNamed t bearer value)
 unfolding modifyNamed
-modify-named-keeps t bearer value =
-    pick-keeps
-    (isIdle (roleOf t bearer)) t _ _ (λ r. refl) (pick-keeps (headFine value) t _ _ (modify-read-keeps t bearer value) (λ r. refl))
+modify-named-leaves t bearer value =
+    pick-leaves
+    (isIdle (roleOf t bearer)) t _ _ (λ r. refl) (pick-leaves (headFine value) t _ _ (modify-read-leaves t bearer value) (λ r. refl))
 
 -- dedicated activation, likewise
-activated-by-keeps : (a : ReadAnswer) (t : Table) (bearer link : ℕ) (e : Element) → Keeps t (activatedBy a t bearer link e)
-activated-by-keeps (readRefused refusal) t bearer link e r = refl
-activated-by-keeps (Filters operation) t bearer link e r =
-    absurd (r (laid-number (build (openedView t (indexOf bearer) (Dedicated link))) bearer (e .filters) true))
-activated-by-keeps Identifiers t bearer link e r = refl
-activated-by-keeps (Bare operation) t bearer link e r = refl
+activated-by-leaves : (v : Verdict) (t : Table) (bearer link : ℕ) (new : List Filter) → RefusalLeaves t (activatedBy v t bearer link new)
+activated-by-leaves (refusedFor refusal) t bearer link new r = refl
+activated-by-leaves accepted t bearer link new r = absurd (r (laid-number (build (openedView t (indexOf bearer) (Dedicated link))) bearer new true))
 
-activate-read-keeps : (t : Table) (bearer link : ℕ) (value : List ℕ) → Keeps t (activateRead t bearer link value)
+activate-read-leaves : (t : Table) (bearer link : ℕ) (value : List ℕ) → RefusalLeaves t (activateRead t bearer link value)
 unfolding activateRead
-activate-read-keeps t bearer link value =
-    pick-keeps
-    (eqb (operationOf value) 1) t _ _ (activated-by-keeps (readElement value .answer) t bearer link (readElement value)) (λ r. refl)
+activate-read-leaves t bearer link value =
+    pick-leaves
+    (eqb (operationOf value) 1) t _ _ (activated-by-leaves (verdictOn (readElement value .answer)) t bearer link (readElement value .filters)) (λ r. refl)
 
-activate-named-keeps : (t : Table) (bearer link : ℕ) (value : List ℕ) → Keeps t (activateNamed t bearer link value)
+activate-named-leaves : (t : Table) (bearer link : ℕ) (value : List ℕ) → RefusalLeaves t (activateNamed t bearer link value)
 unfolding activateNamed
-activate-named-keeps t bearer link value =
-    pick-keeps
-    (free t bearer && isDefault (roleOf t link)) t _ _
-    (pick-keeps (headFine value) t _ _ (activate-read-keeps t bearer link value) (λ r. refl)) (λ r. refl)
+activate-named-leaves t bearer link value =
+    pick-leaves
+    (unused t bearer && isDefault (roleOf t link)) t _ _
+    (pick-leaves (headFine value) t _ _ (activate-read-leaves t bearer link value) (λ r. refl)) (λ r. refl)
 
 -- steps 1 and 2 of both: t before the transaction is closed, s after
-matched : (w m : Bool) (t s : Table) (bearer : ℕ) (o : Outcome) → Keeps s o
-    → let out = pick w (pick m (rejected t bearer Transaction) o) (malformed t) in Refuses out → out .table ≡ pick (w && not m) s t
+matched : (w m : Bool) (t s : Table) (bearer : ℕ) (o : Outcome) → RefusalLeaves s o
+    → let out = pick w (pick m (rejectedWith t bearer Transaction) o) (malformed t) in Refuses out → out .table ≡ pick (w && not m) s t
 matched true true t s bearer o k r = refl
 matched true false t s bearer o k r = k r
 matched false m t s bearer o k r = refl
 
 module _ (t : Table) where
   -- a transaction that is matched at step 2 is closed, whatever follows
-  pub modify-refused : (bearer x : ℕ) (value : List ℕ) → Keeps (pick (wellFormed t && not (mismatch t x)) (closed t x) t) (modifyOf t bearer x value)
+  pub modify-refused : (bearer x : ℕ) (value : List ℕ) → RefusalLeaves (pick (wellFormed t && not (mismatch t x)) (closed t x) t) (modifyOf t bearer x value)
   unfolding modifyOf
   modify-refused bearer x value =
-      matched (wellFormed t) (mismatch t x) t (closed t x) bearer (modifyNamed (closed t x) bearer value) (modify-named-keeps (closed t x) bearer value)
+      matched (wellFormed t) (mismatch t x) t (closed t x) bearer (modifyNamed (closed t x) bearer value) (modify-named-leaves (closed t x) bearer value)
 
   pub activate-dedicated-refused : (bearer link x : ℕ) (value : List ℕ)
-      → Keeps (pick (wellFormed t && not (mismatch t x)) (closed t x) t) (activateDedicatedOf t bearer link x value)
+      → RefusalLeaves (pick (wellFormed t && not (mismatch t x)) (closed t x) t) (activateDedicatedOf t bearer link x value)
   unfolding activateDedicatedOf
   activate-dedicated-refused bearer link x value =
       matched
       (wellFormed t) (mismatch t x) t (closed t x) bearer (activateNamed (closed t x) bearer link value)
-      (activate-named-keeps (closed t x) bearer link value)
+      (activate-named-leaves (closed t x) bearer link value)
 
-  pub activate-default-refused : (bearer : ℕ) → Keeps t (activateDefaultOf t bearer)
+  pub activate-default-refused : (bearer : ℕ) → RefusalLeaves t (activateDefaultOf t bearer)
   unfolding activateDefaultOf
   activate-default-refused bearer =
-      pick-keeps (wellFormed t) t _ _ (pick-keeps (free t bearer) t _ _ (λ r. absurd (r refl)) (λ r. refl)) (λ r. refl)
+      pick-leaves (wellFormed t) t _ _ (pick-leaves (unused t bearer) t _ _ (λ r. absurd (r refl)) (λ r. refl)) (λ r. refl)
 
-  pub deactivate-refused : (bearer x : ℕ) → Keeps t (deactivateOf t bearer x)
+  pub deactivate-refused : (bearer x : ℕ) → RefusalLeaves t (deactivateOf t bearer x)
   unfolding deactivateOf
-  deactivate-refused bearer x = pick-keeps (wellFormed t) t _ _ (λ r. absurd (r refl)) (λ r. refl)
+  deactivate-refused bearer x = pick-leaves (wellFormed t) t _ _ (λ r. absurd (r refl)) (λ r. refl)
 
-  pub reject-refused : (x cause : ℕ) → Keeps t (rejectOf t x cause)
+  pub reject-refused : (x cause : ℕ) → RefusalLeaves t (rejectOf t x cause)
   unfolding rejectOf
   reject-refused x cause =
-      pick-keeps (wellFormed t) t _ _ (pick-keeps (isOpen t x) t _ _ (λ r. absurd (r refl)) (λ r. refl)) (λ r. refl)
+      pick-leaves (wellFormed t) t _ _ (pick-leaves (isOpen t x) t _ _ (λ r. absurd (r refl)) (λ r. refl)) (λ r. refl)
 
-  pub start-refused : (x bearer : ℕ) → Keeps t (startOf t x bearer)
+  pub start-refused : (x bearer : ℕ) → RefusalLeaves t (startOf t x bearer)
   unfolding startOf
   start-refused x bearer =
-      pick-keeps
+      pick-leaves
       (wellFormed t) t _ _
-      (pick-keeps (eqb x 0 || eqb x 255) t _ _ (λ r. refl)
-      (pick-keeps (isIdle (roleOf t bearer)) t _ _ (λ r. refl)
-      (pick-keeps (eqb (transactionAt t (indexOf bearer)) 0) t _ _
-      (pick-keeps (isOpen t x) t _ _ (λ r. refl) (λ r. absurd (r refl))) (λ r. refl)))) (λ r. refl)
+      (pick-leaves (eqb x 0 || eqb x 255) t _ _ (λ r. refl)
+      (pick-leaves (isIdle (roleOf t bearer)) t _ _ (λ r. refl)
+      (pick-leaves (eqb (transactionAt t (indexOf bearer)) 0) t _ _
+      (pick-leaves (isOpen t x) t _ _ (λ r. refl) (λ r. absurd (r refl))) (λ r. refl)))) (λ r. refl)

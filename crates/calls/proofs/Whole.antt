@@ -7,7 +7,7 @@ use Prim.Native.Nat.{ℕ, zero, suc, _^_, _<_, _≤_}
 use native.Mathlib.Omega.{arith}
 use lib.Dec.{eqb}
 use lib.ListN.{length, getD, replicate}
-use borrow.Author.Tests.{eq-eqb, eqb-false, ne-eqb, le-leb}
+use borrow.Author.Tests.{eqb-true, eq-eqb, eqb-false, ne-eqb, le-leb}
 use Rattle.laws.specs.Says.{pick}
 use Rattle.laws.specs.Index.{anyBelow, tab}
 use Rattle.laws.specs.Lists.{every, All, Each}
@@ -20,13 +20,15 @@ use Rattle.filter.specs.declared.component.Filter.{Filter}
 use Rattle.filter.specs.Ranges.{FilterInRange}
 use Rattle.filter.specs.Fittable.{placeFine}
 use Rattle.element.specs.declared.answer.SetOperation.{SetOperation}
+use Rattle.element.specs.declared.answer.SetOperation.the-variants.{Create}
 use Rattle.element.specs.declared.answer.BareOperation.the-variants.{DeleteTft, NoOperation}
 use Rattle.element.specs.declared.answer.Answer.{Answer as ReadAnswer}
 use Rattle.element.specs.declared.answer.Answer.the-variants.{Filters, Identifiers, Bare, Refused as readRefused}
-use Rattle.element.specs.Numbers.{numberOf}
+use Rattle.element.specs.Numbers.{numberOf, verdictOn}
 use Rattle.element.specs.Read.{readElement}
 use Rattle.element.specs.Write.{rowGiven, givenBy, given}
 use Rattle.element.specs.Meaning.{Octet}
+use Rattle.element.proofs.Theorems.{create-reads}
 use Rattle.element.proofs.Given.{element-given, row-distinct, read-in-range}
 use Rattle.table.specs.declared.bearer.Role.{Role}
 use Rattle.table.specs.declared.bearer.Role.the-variants.{Idle, Default, Dedicated}
@@ -39,13 +41,13 @@ use Rattle.table.specs.WellFormed.{wellFormed, Well, WellFormed}
 use Rattle.table.proofs.Meaning.{Fine, idle-says, default-says, range-says, place-says, well-says}
 use Rattle.calls.specs.declared.reply.Outcome.{Outcome}
 use Rattle.calls.specs.Steps.{opensAt, isOpen, ownerBelow, closedView, closed, startedView, openedView, cutView, ofConnection, isAt, droppedBy, dropped, deletedIn, deletedView, empties}
-use Rattle.calls.specs.Lay.{placedIn, laidView, released, laidBy, laidOn, laid}
-use Rattle.element.specs.Head.{operationOf, headFine}
+use Rattle.calls.specs.Lay.{placedIn, laidView, released, layOrRelease, layWithin, layOf}
+use Rattle.element.specs.Head.{create, operationOf, headFine}
 use Rattle.calls.specs.Modify.{creates, mismatch, deleteFilters, deletedTft, modifiedBy, modifyRead, modifyNamed, modifyOf}
-use Rattle.calls.specs.Others.{free, activateDefaultOf, activatedBy, activateRead, activateNamed, activateDedicatedOf, deactivateOf, rejectedBy, rejectOf, startOf}
-use Rattle.calls.specs.Changes.{Kept}
+use Rattle.calls.specs.Others.{unused, activateDefaultOf, activatedBy, activateRead, activateNamed, activateDedicatedOf, deactivateOf, afterReject, rejectOf, startOf}
+use Rattle.calls.specs.Changes.{Sound}
 use Rattle.calls.proofs.Views.{role-built}
-use Rattle.calls.proofs.Kept.{well-built, closed-well, well-started, not-open, ActiveDefault, well-default, well-dedicated, dropped-well, well-deleted, WellSet, laid-cases, active-at, laid-well}
+use Rattle.calls.proofs.Preserved.{well-built, closed-well, well-started, not-open, ActiveDefault, well-default, well-dedicated, dropped-well, well-deleted, WellSet, laid-cases, active-at, laid-well}
 
 -- ---- The filters that are read may be laid
 row-well : (row : List Filter) → Each FilterInRange placeCount row → rowGiven row ≡ true → WellSet row
@@ -168,59 +170,59 @@ module _ (t : Table) (r : TableInRange t) where
       }
 
 -- ---- The steps
-kept-built : (v : View) → ViewInRange v → Well v → Kept (build v)
-kept-built v r w = record { inRange = built-in-range v r; well = well-built v w }
+sound-built : (v : View) → ViewInRange v → Well v → Sound (build v)
+sound-built v r w = record { inRange = built-in-range v r; well = well-built v w }
 
-module _ (t : Table) (kept : Kept t) where
-  closed-kept : (x : ℕ) → Kept (closed t x)
+module _ (t : Table) (sound : Sound t) where
+  closed-sound : (x : ℕ) → Sound (closed t x)
   unfolding closed
-  closed-kept x =
+  closed-sound x =
       record {
-        inRange = picked TableInRange (eqb x 0) t (build (closedView t x)) (kept .inRange) (built-in-range (closedView t x) (closed-in-range t (kept .inRange) x));
-        well = closed-well t (kept .well) x;
+        inRange = picked TableInRange (eqb x 0) t (build (closedView t x)) (sound .inRange) (built-in-range (closedView t x) (closed-in-range t (sound .inRange) x));
+        well = closed-well t (sound .well) x;
       }
 
   cut-in : (gone : ℕ → Bool) → TableInRange (build (cutView t gone))
-  cut-in gone = built-in-range (cutView t gone) (cut-in-range t (kept .inRange) gone)
+  cut-in gone = built-in-range (cutView t gone) (cut-in-range t (sound .inRange) gone)
 
-  dropped-kept : (bearer : ℕ) → Kept (dropped t bearer)
+  dropped-sound : (bearer : ℕ) → Sound (dropped t bearer)
   unfolding dropped
-  dropped-kept bearer = record { inRange = go (roleOf t bearer); well = dropped-well t (kept .well) bearer }
+  dropped-sound bearer = record { inRange = go (roleOf t bearer); well = dropped-well t (sound .well) bearer }
     where
       go : (r : Role) → TableInRange (droppedBy r t bearer)
-      go Idle = kept .inRange
+      go Idle = sound .inRange
       go Default = cut-in (ofConnection t bearer)
       go (Dedicated link) = cut-in (isAt (indexOf bearer))
 
-  deleted-kept : (k : ℕ) (marks : List Bool) → Kept (build (deletedView t k marks))
-  deleted-kept k marks = kept-built (deletedView t k marks) (deleted-in-range t (kept .inRange) k marks) (well-deleted t (kept .well) k marks)
+  deleted-sound : (k : ℕ) (marks : List Bool) → Sound (build (deletedView t k marks))
+  deleted-sound k marks = sound-built (deletedView t k marks) (deleted-in-range t (sound .inRange) k marks) (well-deleted t (sound .well) k marks)
 
-  laid-kept : (bearer : ℕ) (new : List Filter) (create : Bool) → (roleAt t (indexOf bearer) ≡ Idle → ⊥) → Each FilterInRange placeCount new → WellSet new
-      → Kept (laid t bearer new create .table)
-  unfolding laid laidOn
-  laid-kept bearer new create active n ok =
-      record { inRange = go (released new create t (indexOf bearer) (connectionAt t (indexOf bearer))); well = laid-well t bearer new create (kept .well) active ok }
+  laid-sound : (bearer : ℕ) (new : List Filter) (create : Bool) → (roleAt t (indexOf bearer) ≡ Idle → ⊥) → Each FilterInRange placeCount new → WellSet new
+      → Sound (layOf t bearer new create .table)
+  unfolding layOf layWithin
+  laid-sound bearer new create active n ok =
+      record { inRange = go (released new create t (indexOf bearer) (connectionAt t (indexOf bearer))); well = laid-well t bearer new create (sound .well) active ok }
     where
-      go : (b : Bool) → TableInRange (laidBy b t bearer (connectionAt t (indexOf bearer)) new create .table)
+      go : (b : Bool) → TableInRange (layOrRelease b t bearer (connectionAt t (indexOf bearer)) new create .table)
       go true = cut-in (ofConnection t (connectionAt t (indexOf bearer)))
       go false =
           built-in-range (laidView new create t (indexOf bearer) (connectionAt t (indexOf bearer)))
-          (laid-in-range t (kept .inRange) new create (indexOf bearer) (connectionAt t (indexOf bearer)) n)
+          (laid-in-range t (sound .inRange) new create (indexOf bearer) (connectionAt t (indexOf bearer)) n)
 
 -- ---- The calls
 -- an outcome picked by a test
-by-test : (b : Bool) (x y : Outcome) → (b ≡ true → Kept (x .table)) → (b ≡ false → Kept (y .table)) → Kept (pick b x y .table)
+by-test : (b : Bool) (x y : Outcome) → (b ≡ true → Sound (x .table)) → (b ≡ false → Sound (y .table)) → Sound (pick b x y .table)
 by-test true x y p q = p refl
 by-test false x y p q = q refl
 
--- a free identity is in range, and its bearer idle
-abbrev Free : Table → ℕ → Type 0
-Free t bearer = (firstIdentity ≤ bearer) × (bearer ≤ lastIdentity) × (roleAt t (indexOf bearer) ≡ Idle)
+-- an unused identity is in range, and its bearer idle
+abbrev Unused : Table → ℕ → Type 0
+Unused t bearer = (firstIdentity ≤ bearer) × (bearer ≤ lastIdentity) × (roleAt t (indexOf bearer) ≡ Idle)
 
-free-at : (t : Table) (bearer : ℕ) → free t bearer ≡ true → Free t bearer
-free-at t bearer = go (isIdentity bearer) refl
+unused-at : (t : Table) (bearer : ℕ) → unused t bearer ≡ true → Unused t bearer
+unused-at t bearer = go (isIdentity bearer) refl
   where
-    go : (b : Bool) → isIdentity bearer ≡ b → b && isIdle (pick b (roleAt t (indexOf bearer)) Idle) ≡ true → Free t bearer
+    go : (b : Bool) → isIdentity bearer ≡ b → b && isIdle (pick b (roleAt t (indexOf bearer)) Idle) ≡ true → Unused t bearer
     go true e h = let r = range-says bearer .to e in (r .0, r .1, idle-says (roleAt t (indexOf bearer)) .to h)
     go false e h = never h refl
 
@@ -236,136 +238,139 @@ abbrev linkedView : Table → ℕ → ℕ → View
 linkedView t bearer link = openedView t (indexOf bearer) (Dedicated link)
 
 -- by what the reader says, on a table whose transaction is closed
-module _ (t : Table) (kept : Kept t) (value : List ℕ) (octets : All Octet value) where
-  modified-kept : (bearer : ℕ) → isIdle (roleOf t bearer) ≡ false → (a : ReadAnswer) → readElement value .answer ≡ a
-      → Kept (modifiedBy a t bearer (readElement value) .table)
+module _ (t : Table) (sound : Sound t) (value : List ℕ) (octets : All Octet value) where
+  modified-sound : (bearer : ℕ) → isIdle (roleOf t bearer) ≡ false → (a : ReadAnswer) → readElement value .answer ≡ a
+      → Sound (modifiedBy a t bearer (readElement value) .table)
   unfolding deleteFilters deletedTft
-  modified-kept bearer h (readRefused refusal) e = kept
-  modified-kept bearer h (Filters operation) e =
-      laid-kept t kept bearer (readElement value .filters) (creates operation) (active-at t bearer h .2) (read-in-range value octets .filters)
+  modified-sound bearer h (readRefused refusal) e = sound
+  modified-sound bearer h (Filters operation) e =
+      laid-sound t sound bearer (readElement value .filters) (creates operation) (active-at t bearer h .2) (read-in-range value octets .filters)
       (set-well value octets operation e)
-  modified-kept bearer h Identifiers e =
-      by-test (isDedicated (roleOf t bearer) && empties t (indexOf bearer) (readElement value .marks)) _ _ (λ _. kept)
-      (λ _. deleted-kept t kept (indexOf bearer) (readElement value .marks))
-  modified-kept bearer h (Bare DeleteTft) e = deleted-kept t kept (indexOf bearer) (replicate placeCount true)
-  modified-kept bearer h (Bare NoOperation) e = kept
+  modified-sound bearer h Identifiers e =
+      by-test (isDedicated (roleOf t bearer) && empties t (indexOf bearer) (readElement value .marks)) _ _ (λ _. sound)
+      (λ _. deleted-sound t sound (indexOf bearer) (readElement value .marks))
+  modified-sound bearer h (Bare DeleteTft) e = deleted-sound t sound (indexOf bearer) (replicate placeCount true)
+  modified-sound bearer h (Bare NoOperation) e = sound
 
-  modify-named : (bearer : ℕ) → Kept (modifyNamed t bearer value .table)
+  modify-named : (bearer : ℕ) → Sound (modifyNamed t bearer value .table)
   unfolding modifyNamed modifyRead
   modify-named bearer =
-      by-test (isIdle (roleOf t bearer)) _ _ (λ _. kept) (λ h.
+      by-test (isIdle (roleOf t bearer)) _ _ (λ _. sound) (λ h.
       by-test (headFine value) _ _ (λ _.
-      by-test (isDedicated (roleOf t bearer) && eqb (operationOf value) 2) _ _ (λ _. kept) (λ _. modified-kept bearer h (readElement value .answer) refl)) (λ _. kept))
+      by-test (isDedicated (roleOf t bearer) && eqb (operationOf value) 2) _ _ (λ _. sound) (λ _. modified-sound bearer h (readElement value .answer) refl)) (λ _. sound))
 
-  module _ (bearer link : ℕ) (idle : Free t bearer) (default : ActiveDefault t link) where
-    linked-kept : Kept (build (linkedView t bearer link))
-    linked-kept =
-        kept-built (linkedView t bearer link) (opened-in-range t (kept .inRange) (indexOf bearer) (Dedicated link) (omega arith))
-        (well-dedicated t (kept .well) (indexOf bearer) (idle .2) link default)
+  module _ (bearer link : ℕ) (idle : Unused t bearer) (default : ActiveDefault t link) where
+    linked-sound : Sound (build (linkedView t bearer link))
+    linked-sound =
+        sound-built (linkedView t bearer link) (opened-in-range t (sound .inRange) (indexOf bearer) (Dedicated link) (omega arith))
+        (well-dedicated t (sound .well) (indexOf bearer) (idle .2) link default)
 
     linked-active : roleAt (build (linkedView t bearer link)) (indexOf bearer) ≡ Idle → ⊥
     linked-active h =
         let q : linkedView t bearer link .role (indexOf bearer) ≡ Dedicated link = rw (eq-eqb (indexOf bearer) (indexOf bearer) refl) in
         never (ap isIdle h) (ap isIdle (role-built (linkedView t bearer link) (indexOf bearer) (omega arith) ∙ q))
 
-    activated-kept : (a : ReadAnswer) → readElement value .answer ≡ a → Kept (activatedBy a t bearer link (readElement value) .table)
-    activated-kept (readRefused refusal) e = kept
-    activated-kept (Filters operation) e =
-        laid-kept (build (linkedView t bearer link)) linked-kept bearer (readElement value .filters) true linked-active (read-in-range value octets .filters)
-        (set-well value octets operation e)
-    activated-kept Identifiers e = kept
-    activated-kept (Bare operation) e = kept
+    -- the cause, or laying the filters of a create
+    activated-sound : operationOf value ≡ create → Sound (activatedBy (verdictOn (readElement value .answer)) t bearer link (readElement value .filters) .table)
+    activated-sound h =
+        ⊎-elim (λ e. subst Activated (sym e)
+        (laid-sound (build (linkedView t bearer link)) linked-sound bearer (readElement value .filters) true linked-active (read-in-range value octets .filters)
+        (set-well value octets Create e)))
+        (λ c. subst Activated (sym (c .is)) sound) (create-reads value h)
+      where
+        Activated : ReadAnswer → Type 0
+        Activated a = Sound (activatedBy (verdictOn a) t bearer link (readElement value .filters) .table)
 
-  activate-named : (bearer link : ℕ) → Kept (activateNamed t bearer link value .table)
+  activate-named : (bearer link : ℕ) → Sound (activateNamed t bearer link value .table)
   unfolding activateNamed activateRead
   activate-named bearer link =
-      by-test (free t bearer && isDefault (roleOf t link)) _ _ (λ h.
-      let f = both (free t bearer) (isDefault (roleOf t link)) h in
+      by-test (unused t bearer && isDefault (roleOf t link)) _ _ (λ h.
+      let f = both (unused t bearer) (isDefault (roleOf t link)) h in
       by-test (headFine value) _ _ (λ _.
-      by-test (eqb (operationOf value) 1) _ _
-      (λ _. activated-kept bearer link (free-at t bearer (f .0)) (default-at t link (f .1)) (readElement value .answer) refl) (λ _. kept)) (λ _. kept)) (λ _. kept)
+      by-test (eqb (operationOf value) create) _ _
+      (λ e. activated-sound bearer link (unused-at t bearer (f .0)) (default-at t link (f .1)) (eqb-true (operationOf value) create e)) (λ _. sound)) (λ _. sound)) (λ _. sound)
 
 -- a transaction that is not open, of an identity that may be
 unopened : (t : Table) (x : ℕ) → (x ≡ 0 → ⊥) → x ≤ lastTransaction → isOpen t x ≡ false → anyBelow (opensAt t x) bearerCount ≡ false
 unfolding isOpen
 unopened t x n l e = rw (ne-eqb x 0 n, le-leb x lastTransaction l) at e
 
-module _ (t : Table) (kept : Kept t) where
-  pub activate-default-kept : (bearer : ℕ) → Kept (activateDefaultOf t bearer .table)
+module _ (t : Table) (sound : Sound t) where
+  pub activate-default-sound : (bearer : ℕ) → Sound (activateDefaultOf t bearer .table)
   unfolding activateDefaultOf
-  activate-default-kept bearer =
-      by-test (wellFormed t) _ _ (λ _. by-test (free t bearer) _ _ opened (λ _. kept)) (λ _. kept)
+  activate-default-sound bearer =
+      by-test (wellFormed t) _ _ (λ _. by-test (unused t bearer) _ _ opened (λ _. sound)) (λ _. sound)
     where
-      opened : free t bearer ≡ true → Kept (build (openedView t (indexOf bearer) Default))
+      opened : unused t bearer ≡ true → Sound (build (openedView t (indexOf bearer) Default))
       opened e =
-          kept-built (openedView t (indexOf bearer) Default) (opened-in-range t (kept .inRange) (indexOf bearer) Default tt)
-          (well-default t (kept .well) (indexOf bearer) (free-at t bearer e .2))
+          sound-built (openedView t (indexOf bearer) Default) (opened-in-range t (sound .inRange) (indexOf bearer) Default tt)
+          (well-default t (sound .well) (indexOf bearer) (unused-at t bearer e .2))
 
-  pub activate-dedicated-kept : (bearer link x : ℕ) (value : List ℕ) → All Octet value → Kept (activateDedicatedOf t bearer link x value .table)
+  pub activate-dedicated-sound : (bearer link x : ℕ) (value : List ℕ) → All Octet value → Sound (activateDedicatedOf t bearer link x value .table)
   unfolding activateDedicatedOf
-  activate-dedicated-kept bearer link x value octets =
+  activate-dedicated-sound bearer link x value octets =
       by-test (wellFormed t) _ _ (λ _.
-      by-test (mismatch t x) _ _ (λ _. kept) (λ _. activate-named (closed t x) (closed-kept t kept x) value octets bearer link)) (λ _. kept)
+      by-test (mismatch t x) _ _ (λ _. sound) (λ _. activate-named (closed t x) (closed-sound t sound x) value octets bearer link)) (λ _. sound)
 
-  pub modify-kept : (bearer x : ℕ) (value : List ℕ) → All Octet value → Kept (modifyOf t bearer x value .table)
+  pub modify-sound : (bearer x : ℕ) (value : List ℕ) → All Octet value → Sound (modifyOf t bearer x value .table)
   unfolding modifyOf
-  modify-kept bearer x value octets =
+  modify-sound bearer x value octets =
       by-test (wellFormed t) _ _ (λ _.
-      by-test (mismatch t x) _ _ (λ _. kept) (λ _. modify-named (closed t x) (closed-kept t kept x) value octets bearer)) (λ _. kept)
+      by-test (mismatch t x) _ _ (λ _. sound) (λ _. modify-named (closed t x) (closed-sound t sound x) value octets bearer)) (λ _. sound)
 
-  pub deactivate-kept : (bearer x : ℕ) → Kept (deactivateOf t bearer x .table)
+  pub deactivate-sound : (bearer x : ℕ) → Sound (deactivateOf t bearer x .table)
   unfolding deactivateOf
-  deactivate-kept bearer x = by-test (wellFormed t) _ _ (λ _. dropped-kept (closed t x) (closed-kept t kept x) bearer) (λ _. kept)
+  deactivate-sound bearer x = by-test (wellFormed t) _ _ (λ _. dropped-sound (closed t x) (closed-sound t sound x) bearer) (λ _. sound)
 
-  pub reject-kept : (x cause : ℕ) → Kept (rejectOf t x cause .table)
+  pub reject-sound : (x cause : ℕ) → Sound (rejectOf t x cause .table)
   unfolding rejectOf
-  reject-kept x cause = by-test (wellFormed t) _ _ (λ _. by-test (isOpen t x) _ _ (λ _. rejected) (λ _. kept)) (λ _. kept)
+  reject-sound x cause = by-test (wellFormed t) _ _ (λ _. by-test (isOpen t x) _ _ (λ _. rejectedWith) (λ _. sound)) (λ _. sound)
     where
-      rejected : Kept (rejectedBy (eqb cause 43) t x)
-      rejected =
-          let c = closed-kept t kept x in
-          picked Kept (eqb cause 43) (dropped (closed t x) (ownerBelow t x bearerCount)) (closed t x) (dropped-kept (closed t x) c (ownerBelow t x bearerCount)) c
+      rejectedWith : Sound (afterReject (eqb cause 43) t x)
+      rejectedWith =
+          let c = closed-sound t sound x in
+          picked Sound (eqb cause 43) (dropped (closed t x) (ownerBelow t x bearerCount)) (closed t x) (dropped-sound (closed t x) c (ownerBelow t x bearerCount)) c
 
-  pub start-kept : (x bearer : ℕ) → x < 2 ^ 8 → Kept (startOf t x bearer .table)
+  pub start-sound : (x bearer : ℕ) → x < 2 ^ 8 → Sound (startOf t x bearer .table)
   unfolding startOf
-  start-kept x bearer s =
+  start-sound x bearer s =
       by-test (wellFormed t) _ _ (λ _.
-      by-test (eqb x 0 || eqb x 255) _ _ (λ _. kept) (λ e.
-      by-test (isIdle (roleOf t bearer)) _ _ (λ _. kept) (λ h.
-      by-test (eqb (transactionAt t (indexOf bearer)) 0) _ _ (λ _. by-test (isOpen t x) _ _ (λ _. kept) (started e h)) (λ _. kept)))) (λ _. kept)
+      by-test (eqb x 0 || eqb x 255) _ _ (λ _. sound) (λ e.
+      by-test (isIdle (roleOf t bearer)) _ _ (λ _. sound) (λ h.
+      by-test (eqb (transactionAt t (indexOf bearer)) 0) _ _ (λ _. by-test (isOpen t x) _ _ (λ _. sound) (started e h)) (λ _. sound)))) (λ _. sound)
     where
-      started : eqb x 0 || eqb x 255 ≡ false → isIdle (roleOf t bearer) ≡ false → isOpen t x ≡ false → Kept (build (startedView t (indexOf bearer) x))
+      started : eqb x 0 || eqb x 255 ≡ false → isIdle (roleOf t bearer) ≡ false → isOpen t x ≡ false → Sound (build (startedView t (indexOf bearer) x))
       started e h o =
           let n = neither (eqb x 0) (eqb x 255) e in
           let some : x ≡ 0 → ⊥ = eqb-false x 0 (n .0) in
           let other : x ≡ 255 → ⊥ = eqb-false x 255 (n .1) in
           let few : x ≤ lastTransaction = omega arith in
-          kept-built (startedView t (indexOf bearer) x) (started-in-range t (kept .inRange) (indexOf bearer) x s)
-          (well-started t (kept .well) x (indexOf bearer) (active-at t bearer h .2) few (not-open t x (unopened t x some few o)))
+          sound-built (startedView t (indexOf bearer) x) (started-in-range t (sound .inRange) (indexOf bearer) x s)
+          (well-started t (sound .well) x (indexOf bearer) (active-at t bearer h .2) few (not-open t x (unopened t x some few o)))
 
 -- ---- The same of the test
 module _ (t : Table) (r : TableInRange t) (e : wellFormed t ≡ true) where
-  before : Kept t
+  before : Sound t
   before = record { inRange = r; well = well-says t r .to e }
 
-  after : (s : Table) → Kept s → wellFormed s ≡ true
+  after : (s : Table) → Sound s → wellFormed s ≡ true
   after s k = well-says s (k .inRange) .from (k .well)
 
   pub activate-default-well : (bearer : ℕ) → wellFormed (activateDefaultOf t bearer .table) ≡ true
-  activate-default-well bearer = after (activateDefaultOf t bearer .table) (activate-default-kept t before bearer)
+  activate-default-well bearer = after (activateDefaultOf t bearer .table) (activate-default-sound t before bearer)
 
   pub activate-dedicated-well : (bearer link x : ℕ) (value : List ℕ) → All Octet value → wellFormed (activateDedicatedOf t bearer link x value .table) ≡ true
   activate-dedicated-well bearer link x value octets =
-      after (activateDedicatedOf t bearer link x value .table) (activate-dedicated-kept t before bearer link x value octets)
+      after (activateDedicatedOf t bearer link x value .table) (activate-dedicated-sound t before bearer link x value octets)
 
   pub modify-well : (bearer x : ℕ) (value : List ℕ) → All Octet value → wellFormed (modifyOf t bearer x value .table) ≡ true
-  modify-well bearer x value octets = after (modifyOf t bearer x value .table) (modify-kept t before bearer x value octets)
+  modify-well bearer x value octets = after (modifyOf t bearer x value .table) (modify-sound t before bearer x value octets)
 
   pub deactivate-well : (bearer x : ℕ) → wellFormed (deactivateOf t bearer x .table) ≡ true
-  deactivate-well bearer x = after (deactivateOf t bearer x .table) (deactivate-kept t before bearer x)
+  deactivate-well bearer x = after (deactivateOf t bearer x .table) (deactivate-sound t before bearer x)
 
   pub reject-well : (x cause : ℕ) → wellFormed (rejectOf t x cause .table) ≡ true
-  reject-well x cause = after (rejectOf t x cause .table) (reject-kept t before x cause)
+  reject-well x cause = after (rejectOf t x cause .table) (reject-sound t before x cause)
 
   pub start-well : (x bearer : ℕ) → x < 2 ^ 8 → wellFormed (startOf t x bearer .table) ≡ true
-  start-well x bearer s = after (startOf t x bearer .table) (start-kept t before x bearer s)
+  start-well x bearer s = after (startOf t x bearer .table) (start-sound t before x bearer s)

@@ -26,7 +26,7 @@ use Rattle.calls.specs.Reply.{numberOf, followOf}
 use Rattle.calls.specs.Modify.{creates}
 
 -- a table that is well formed, every number in its type's range
-pub record Kept (s : Table) : Type 0 where
+pub record Sound (s : Table) : Type 0 where
   pub inRange : TableInRange s
   pub well : WellFormed s
 
@@ -39,8 +39,8 @@ abbrev pub Gives : List ℕ → Outcome → Type 0
 Gives numbers o = isIn (numberOf (o .reply .answer)) numbers ≡ true
 
 -- where it refuses, the table is t
-abbrev pub Keeps : Table → Outcome → Type 0
-Keeps t o = Refuses o → o .table ≡ t
+abbrev pub RefusalLeaves : Table → Outcome → Type 0
+RefusalLeaves t o = Refuses o → o .table ≡ t
 
 -- ---- a follow-up list
 -- the bearer at i is in the list

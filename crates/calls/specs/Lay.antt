@@ -54,8 +54,8 @@ module _ (new : List Filter) (create : Bool) where
     unfoldable pub losesAt : ℕ → Bool
     losesAt i = loses (eqb i k) (ofConnection t connection i) (bearerAt t i .row)
 
-    unfoldable pub frees : ℕ → Bool
-    frees i = isDefault (roleAt t i) && losesAt i
+    unfoldable pub conflictOnDefault : ℕ → Bool
+    conflictOnDefault i = isDefault (roleAt t i) && losesAt i
 
     unfoldable pub follows : ℕ → Bool
     follows i = isDedicated (roleAt t i) && losesAt i
@@ -65,7 +65,7 @@ module _ (new : List Filter) (create : Bool) where
 
     -- "Any conflict on the default"
     unfoldable pub released : Bool
-    released = anyBelow frees bearerCount
+    released = anyBelow conflictOnDefault bearerCount
 
     -- "those bearers, the named one included, form the follow-up list in rising identity"
     unfoldable pub followers : List ℕ
@@ -78,15 +78,15 @@ otherAt t connection i = isDefault (roleAt t i) && not (eqb (identityOf i) conne
 unfoldable pub onlyConnection : Table → ℕ → Bool
 onlyConnection t connection = not (anyBelow (otherAt t connection) bearerCount)
 
-abbrev pub laidBy : Bool → Table → ℕ → ℕ → List Filter → Bool → Outcome
-laidBy true t bearer connection new create =
+abbrev pub layOrRelease : Bool → Table → ℕ → ℕ → List Filter → Bool → Outcome
+layOrRelease true t bearer connection new create =
     answered (build (cutView t (ofConnection t connection))) (pick (onlyConnection t connection) Reattach (Release connection))
-laidBy false t bearer connection new create =
+layOrRelease false t bearer connection new create =
     outcome (build (laidView new create t (indexOf bearer) connection)) (Accept bearer) (followers new create t (indexOf bearer) connection)
 
-unfoldable pub laidOn : Table → ℕ → ℕ → List Filter → Bool → Outcome
-laidOn t bearer connection new create = laidBy (released new create t (indexOf bearer) connection) t bearer connection new create
+unfoldable pub layWithin : Table → ℕ → ℕ → List Filter → Bool → Outcome
+layWithin t bearer connection new create = layOrRelease (released new create t (indexOf bearer) connection) t bearer connection new create
 
 -- new filters on a bearer, over the old ones or in their place
-unfoldable pub laid : Table → ℕ → List Filter → Bool → Outcome
-laid t bearer new create = laidOn t bearer (connectionAt t (indexOf bearer)) new create
+unfoldable pub layOf : Table → ℕ → List Filter → Bool → Outcome
+layOf t bearer new create = layWithin t bearer (connectionAt t (indexOf bearer)) new create

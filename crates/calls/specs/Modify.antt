@@ -21,9 +21,9 @@ use Rattle.calls.specs.declared.reply.Cause.the-variants.{TftSemantics, 
 use Rattle.calls.specs.declared.reply.Refusal.the-variants.{NotWellFormed}
 use Rattle.calls.specs.declared.reply.Answer.the-variants.{Accept, Refused}
 use Rattle.calls.specs.declared.reply.Outcome.{Outcome}
-use Rattle.calls.specs.Reply.{causeOf, answered, rejected}
+use Rattle.calls.specs.Reply.{causeOf, answered, rejectedWith}
 use Rattle.calls.specs.Steps.{isOpen, closed, deletedView, empties}
-use Rattle.calls.specs.Lay.{laid}
+use Rattle.calls.specs.Lay.{layOf}
 
 -- Step 1: "Table not well formed: 1."
 abbrev pub malformed : Table → Outcome
@@ -42,7 +42,7 @@ creates Replace = false
 -- Step 10: "Delete filters that empties a TFT with filters, dedicated bearer: 41."
 unfoldable pub deleteFilters : Table → ℕ → List Bool → Outcome
 deleteFilters t bearer marks =
-    pick (isDedicated (roleOf t bearer) && empties t (indexOf bearer) marks) (rejected t bearer TftSemantics)
+    pick (isDedicated (roleOf t bearer) && empties t (indexOf bearer) marks) (rejectedWith t bearer TftSemantics)
     (answered (build (deletedView t (indexOf bearer) marks)) (Accept bearer))
 
 -- "Delete TFT removes a default's TFT."
@@ -51,8 +51,8 @@ deletedTft t bearer = answered (build (deletedView t (indexOf bearer) (replicate
 
 -- Steps 6 to 9 are the reader's
 abbrev pub modifiedBy : ReadAnswer → Table → ℕ → Element → Outcome
-modifiedBy (readRefused refusal) t bearer e = rejected t bearer (causeOf (refusal .cause))
-modifiedBy (Filters operation) t bearer e = laid t bearer (e .filters) (creates operation)
+modifiedBy (readRefused refusal) t bearer e = rejectedWith t bearer (causeOf (refusal .cause))
+modifiedBy (Filters operation) t bearer e = layOf t bearer (e .filters) (creates operation)
 modifiedBy Identifiers t bearer e = deleteFilters t bearer (e .marks)
 modifiedBy (Bare DeleteTft) t bearer e = deletedTft t bearer
 modifiedBy (Bare NoOperation) t bearer e = answered t (Accept bearer)
@@ -60,15 +60,15 @@ modifiedBy (Bare NoOperation) t bearer e = answered t (Accept bearer)
 -- Step 5: "Delete TFT on a dedicated bearer, with or without a TFT: 41."
 unfoldable pub modifyRead : Table → ℕ → List ℕ → Outcome
 modifyRead t bearer value =
-    pick (isDedicated (roleOf t bearer) && eqb (operationOf value) deleteTft) (rejected t bearer TftSemantics)
+    pick (isDedicated (roleOf t bearer) && eqb (operationOf value) deleteTft) (rejectedWith t bearer TftSemantics)
     (modifiedBy (readElement value .answer) t bearer (readElement value))
 
 -- Step 3: "Bearer not 5 to 15, or idle: 43." Step 4: "Value length 0 or above 255, operation 0 or 7: 42."
 unfoldable pub modifyNamed : Table → ℕ → List ℕ → Outcome
 modifyNamed t bearer value =
-    pick (isIdle (roleOf t bearer)) (rejected t bearer BearerIdentity)
-    (pick (headFine value) (modifyRead t bearer value) (rejected t bearer TftSyntax))
+    pick (isIdle (roleOf t bearer)) (rejectedWith t bearer BearerIdentity)
+    (pick (headFine value) (modifyRead t bearer value) (rejectedWith t bearer TftSyntax))
 
 unfoldable pub modifyOf : Table → ℕ → ℕ → List ℕ → Outcome
 modifyOf t bearer x value =
-    pick (wellFormed t) (pick (mismatch t x) (rejected t bearer Transaction) (modifyNamed (closed t x) bearer value)) (malformed t)
+    pick (wellFormed t) (pick (mismatch t x) (rejectedWith t bearer Transaction) (modifyNamed (closed t x) bearer value)) (malformed t)

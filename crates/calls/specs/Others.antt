@@ -4,9 +4,8 @@ use mathlib.Core.Bool.{Bool, true, not, _&&_, _||_}
 use mathlib.Core.List.{List}
 use lib.Dec.{eqb}
 use Rattle.laws.specs.Says.{pick}
-use Rattle.element.specs.declared.answer.Answer.{Answer as ReadAnswer}
-use Rattle.element.specs.declared.answer.Answer.the-variants.{Filters, Identifiers, Bare, Refused as readRefused}
-use Rattle.element.specs.declared.answer.Element.{Element}
+use Rattle.filter.specs.declared.component.Filter.{Filter}
+use Rattle.element.specs.Numbers.{Verdict, accepted, refusedFor, verdictOn}
 use Rattle.element.specs.Head.{create, operationOf, headFine}
 use Rattle.element.specs.Read.{readElement}
 use Rattle.table.specs.declared.bearer.Role.the-variants.{Default, Dedicated}
@@ -17,40 +16,39 @@ use Rattle.calls.specs.declared.reply.Cause.the-variants.{TftSemantics, 
 use Rattle.calls.specs.declared.reply.Refusal.the-variants.{NotOpen, NoIdentity, AlreadyOpen, NoBearer, BearerBusy}
 use Rattle.calls.specs.declared.reply.Answer.the-variants.{Accept, Started, Closed, Refused}
 use Rattle.calls.specs.declared.reply.Outcome.{Outcome}
-use Rattle.calls.specs.Reply.{causeOf, answered, rejected}
+use Rattle.calls.specs.Reply.{causeOf, answered, rejectedWith}
 use Rattle.calls.specs.Steps.{isOpen, ownerBelow, closed, startedView, openedView, dropped}
-use Rattle.calls.specs.Lay.{laid}
+use Rattle.calls.specs.Lay.{layOf}
 use Rattle.calls.specs.Modify.{malformed, mismatch}
 
 -- "Default activation: 1, then 43 for an identity outside 5 to 15 or in use (house); else accept, and the bearer is a default without TFT."
-abbrev pub free : Table → ℕ → Bool
-free t bearer = isIdentity bearer && isIdle (roleOf t bearer)
+abbrev pub unused : Table → ℕ → Bool
+unused t bearer = isIdentity bearer && isIdle (roleOf t bearer)
 
 unfoldable pub activateDefaultOf : Table → ℕ → Outcome
 activateDefaultOf t bearer =
     pick (wellFormed t)
-    (pick (free t bearer) (answered (build (openedView t (indexOf bearer) Default)) (Accept bearer)) (rejected t bearer BearerIdentity)) (malformed t)
+    (pick (unused t bearer) (answered (build (openedView t (indexOf bearer) Default)) (Accept bearer)) (rejectedWith t bearer BearerIdentity)) (malformed t)
 
 -- "Dedicated activation: as above, but step 3 refuses an identity outside 5 to 15 or in use (house) or a link to no active default with 43, and
 -- step 5 refuses any operation but create with 41; a conflict on the default releases the connection, and the new bearer stays idle."
-abbrev pub activatedBy : ReadAnswer → Table → ℕ → ℕ → Element → Outcome
-activatedBy (readRefused refusal) t bearer link e = rejected t bearer (causeOf (refusal .cause))
-activatedBy (Filters operation) t bearer link e = laid (build (openedView t (indexOf bearer) (Dedicated link))) bearer (e .filters) true
-activatedBy Identifiers t bearer link e = rejected t bearer TftSemantics
-activatedBy (Bare operation) t bearer link e = rejected t bearer TftSemantics
+abbrev pub activatedBy : Verdict → Table → ℕ → ℕ → List Filter → Outcome
+activatedBy (refusedFor refusal) t bearer link new = rejectedWith t bearer (causeOf (refusal .cause))
+activatedBy accepted t bearer link new = layOf (build (openedView t (indexOf bearer) (Dedicated link))) bearer new true
 
 unfoldable pub activateRead : Table → ℕ → ℕ → List ℕ → Outcome
 activateRead t bearer link value =
-    pick (eqb (operationOf value) create) (activatedBy (readElement value .answer) t bearer link (readElement value)) (rejected t bearer TftSemantics)
+    pick (eqb (operationOf value) create) (activatedBy (verdictOn (readElement value .answer)) t bearer link (readElement value .filters))
+    (rejectedWith t bearer TftSemantics)
 
 unfoldable pub activateNamed : Table → ℕ → ℕ → List ℕ → Outcome
 activateNamed t bearer link value =
-    pick (free t bearer && isDefault (roleOf t link))
-    (pick (headFine value) (activateRead t bearer link value) (rejected t bearer TftSyntax)) (rejected t bearer BearerIdentity)
+    pick (unused t bearer && isDefault (roleOf t link))
+    (pick (headFine value) (activateRead t bearer link value) (rejectedWith t bearer TftSyntax)) (rejectedWith t bearer BearerIdentity)
 
 unfoldable pub activateDedicatedOf : Table → ℕ → ℕ → ℕ → List ℕ → Outcome
 activateDedicatedOf t bearer link x value =
-    pick (wellFormed t) (pick (mismatch t x) (rejected t bearer Transaction) (activateNamed (closed t x) bearer link value)) (malformed t)
+    pick (wellFormed t) (pick (mismatch t x) (rejectedWith t bearer Transaction) (activateNamed (closed t x) bearer link value)) (malformed t)
 
 -- "Deactivate: always accept with the received identity once the table is well formed; a default takes its connection along; a matching
 -- transaction and those of bearers gone are closed; an unmatched identity is ignored (house)."
@@ -58,12 +56,12 @@ unfoldable pub deactivateOf : Table → ℕ → ℕ → Outcome
 deactivateOf t bearer x = pick (wellFormed t) (answered (dropped (closed t x) bearer) (Accept bearer)) (malformed t)
 
 -- "Resource modification reject: closes the transaction; cause 43 also deactivates its bearer, and a default's connection." "Reject: 1, 3."
-abbrev pub rejectedBy : Bool → Table → ℕ → Table
-rejectedBy gone t x = pick gone (dropped (closed t x) (ownerBelow t x bearerCount)) (closed t x)
+abbrev pub afterReject : Bool → Table → ℕ → Table
+afterReject gone t x = pick gone (dropped (closed t x) (ownerBelow t x bearerCount)) (closed t x)
 
 unfoldable pub rejectOf : Table → ℕ → ℕ → Outcome
 rejectOf t x cause =
-    pick (wellFormed t) (pick (isOpen t x) (answered (rejectedBy (eqb cause 43) t x) (Closed x)) (answered t (Refused NotOpen))) (malformed t)
+    pick (wellFormed t) (pick (isOpen t x) (answered (afterReject (eqb cause 43) t x) (Closed x)) (answered t (Refused NotOpen))) (malformed t)
 
 -- "Start of a transaction records identity and bearer." "Start: 1, 4, 6, 7, 5."
 unfoldable pub startOf : Table → ℕ → ℕ → Outcome

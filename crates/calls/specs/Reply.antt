@@ -59,5 +59,5 @@ outcome t answer xs = record { table = t; reply = record { answer = answer; foll
 abbrev pub answered : Table → Answer → Outcome
 answered t answer = outcome t answer []
 
-abbrev pub rejected : Table → ℕ → Cause → Outcome
-rejected t bearer cause = answered t (Reject bearer cause)
+abbrev pub rejectedWith : Table → ℕ → Cause → Outcome
+rejectedWith t bearer cause = answered t (Reject bearer cause)

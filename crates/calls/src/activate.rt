@@ -1,6 +1,7 @@
 // Default and dedicated activation.
 ghost use mathlib.Core.Path.{_≡_};
-ghost use Rattle.calls.specs.Others.{free, activatedBy, activateRead, activateNamed, activateDefaultOf, activateDedicatedOf};
+ghost use Rattle.element.specs.Numbers.{verdictOn};
+ghost use Rattle.calls.specs.Others.{unused, activatedBy, activateRead, activateNamed, activateDefaultOf, activateDedicatedOf};
 use crate::lay::lay;
 use crate::modify::malformed_table;
 use crate::modify::mismatches;
@@ -26,8 +27,8 @@ use table::bearer::is_idle;
 use table::bearer::role_of;
 use table::well_formed::well_formed;
 
-fn is_free(t: Table, bearer: u8) -> bool
-    ensures { λ r. ⌜ r ≡ free t bearer ⌝ }
+fn is_unused(t: Table, bearer: u8) -> bool
+    ensures { λ r. ⌜ r ≡ unused t bearer ⌝ }
 {
     is_identity(bearer) & is_idle(role_of(t, bearer))
 }
@@ -38,7 +39,7 @@ pub fn activate_default(t: Table, bearer: u8) -> Outcome
     if !well_formed(t) {
         return malformed_table(t);
     }
-    if !is_free(t, bearer) {
+    if !is_unused(t, bearer) {
         return reject_with(t, bearer, Cause::BearerIdentity);
     }
     answer_with(
@@ -47,8 +48,9 @@ pub fn activate_default(t: Table, bearer: u8) -> Outcome
     )
 }
 
+// An element whose operation is create reads as a create or as a cause.
 fn activate_by(t: Table, bearer: u8, link: u8, e: Element) -> Outcome
-    ensures { λ r. ⌜ r ≡ activatedBy (e .answer) t bearer link e ⌝ }
+    ensures { λ r. ⌜ r ≡ activatedBy (verdictOn (e .answer)) t bearer link (e .filters) ⌝ }
 {
     let answer = e.answer;
     let filters = e.filters;
@@ -57,12 +59,10 @@ fn activate_by(t: Table, bearer: u8, link: u8, e: Element) -> Outcome
             let cause = refusal.cause;
             reject_with(t, bearer, cause_of(cause))
         }
-        element::Answer::Filters(_) => {
+        _ => {
             let opened = opened_table(t, index_of(bearer), Role::Dedicated(link));
             lay(opened, bearer, filters, true)
         }
-        element::Answer::Identifiers => reject_with(t, bearer, Cause::TftSemantics),
-        element::Answer::Bare(_) => reject_with(t, bearer, Cause::TftSemantics),
     }
 }
 
@@ -78,7 +78,7 @@ fn activate_read(t: Table, bearer: u8, link: u8, value: &[u8]) -> Outcome
 fn activate_named(t: Table, bearer: u8, link: u8, value: &[u8]) -> Outcome
     ensures { λ r. ⌜ r ≡ activateNamed t bearer link (now (value .entry)) ⌝ }
 {
-    let allowed = is_free(t, bearer) & is_default(role_of(t, link));
+    let allowed = is_unused(t, bearer) & is_default(role_of(t, link));
     if !allowed {
         return reject_with(t, bearer, Cause::BearerIdentity);
     }

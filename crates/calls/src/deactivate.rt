@@ -1,6 +1,6 @@
 // Deactivation, and the network's reject of a resource modification.
 ghost use mathlib.Core.Path.{_≡_};
-ghost use Rattle.calls.specs.Others.{deactivateOf, rejectedBy, rejectOf};
+ghost use Rattle.calls.specs.Others.{deactivateOf, afterReject, rejectOf};
 use crate::modify::malformed_table;
 use crate::reply::Answer;
 use crate::reply::Outcome;
@@ -27,8 +27,8 @@ pub fn deactivate(t: Table, bearer: u8, transaction: u8) -> Outcome
     )
 }
 
-fn rejected_table(gone: bool, t: Table, transaction: u8) -> Table
-    ensures { λ r. ⌜ r ≡ rejectedBy gone t transaction ⌝ }
+fn after_reject(gone: bool, t: Table, transaction: u8) -> Table
+    ensures { λ r. ⌜ r ≡ afterReject gone t transaction ⌝ }
 {
     let s = close(t, transaction);
     if gone {
@@ -48,7 +48,7 @@ pub fn reject(t: Table, transaction: u8, cause: u8) -> Outcome
         return answer_with(t, Answer::Refused(Refusal::NotOpen));
     }
     answer_with(
-        rejected_table(cause == INVALID_BEARER, t, transaction),
+        after_reject(cause == INVALID_BEARER, t, transaction),
         Answer::Closed(transaction),
     )
 }

@@ -11,7 +11,7 @@ ghost use Rattle.filter.specs.Build.{emptyFilter};
 ghost use Rattle.table.specs.Bearers.{roleAt, identityOf, isDefault, isDedicated, build, bearerCount};
 ghost use Rattle.calls.specs.Reply.{followOf};
 ghost use Rattle.calls.specs.inner.Walk.{noted};
-ghost use Rattle.calls.specs.Lay.{takes, loses, placedIn, losesAt, laidView, onlyConnection, laidOn, laid};
+ghost use Rattle.calls.specs.Lay.{takes, loses, placedIn, losesAt, laidView, onlyConnection, layWithin, layOf};
 ghost use Rattle.filter.specs.Sizes.{placeCount, precedenceCount};
 use crate::reply::Answer;
 use crate::reply::FollowUps;
@@ -250,8 +250,8 @@ fn only_connection(t: Table, connection: u8) -> bool
     !any
 }
 
-fn lay_on(t: Table, bearer: u8, connection: u8, new: [Filter; PLACES], create: bool) -> Outcome
-    ensures { λ r. ⌜ r ≡ laidOn t bearer connection new create ⌝ }
+fn lay_within(t: Table, bearer: u8, connection: u8, new: [Filter; PLACES], create: bool) -> Outcome
+    ensures { λ r. ⌜ r ≡ layWithin t bearer connection new create ⌝ }
 {
     let k = index_of(bearer);
     let taken = taken_by(new);
@@ -276,8 +276,8 @@ fn lay_on(t: Table, bearer: u8, connection: u8, new: [Filter; PLACES], create: b
 
 // New filters on the bearer, over its old ones or in their place.
 pub(crate) fn lay(t: Table, bearer: u8, new: [Filter; PLACES], create: bool) -> Outcome
-    ensures { λ r. ⌜ r ≡ laid t bearer new create ⌝ }
+    ensures { λ r. ⌜ r ≡ layOf t bearer new create ⌝ }
 {
     let k = index_of(bearer);
-    lay_on(t, bearer, connection_at(t, k), new, create)
+    lay_within(t, bearer, connection_at(t, k), new, create)
 }

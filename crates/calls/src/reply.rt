@@ -1,7 +1,7 @@
 // What a call gives.
 ghost use mathlib.Core.Path.{_≡_};
 ghost use mathlib.Core.List.{[]};
-ghost use Rattle.calls.specs.Reply.{causeNumber, refusalNumber, numberOf, causeOf, followOf, answered, rejected};
+ghost use Rattle.calls.specs.Reply.{causeNumber, refusalNumber, numberOf, causeOf, followOf, answered, rejectedWith};
 use table::Table;
 use table::bearer::BEARERS;
 
@@ -123,7 +123,7 @@ pub(crate) fn answer_with(t: Table, answer: Answer) -> Outcome
 }
 
 pub(crate) fn reject_with(t: Table, bearer: u8, cause: Cause) -> Outcome
-    ensures { λ r. ⌜ r ≡ rejected t bearer cause ⌝ }
+    ensures { λ r. ⌜ r ≡ rejectedWith t bearer cause ⌝ }
 {
     answer_with(t, Answer::Reject(bearer, cause))
 }

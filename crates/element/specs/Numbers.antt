@@ -2,6 +2,7 @@
 use Prim.Native.Nat.{ℕ}
 use Rattle.element.specs.declared.answer.Cause.{Cause}
 use Rattle.element.specs.declared.answer.Cause.the-variants.{Operation, Semantics, Coding}
+use Rattle.element.specs.declared.answer.Refusal.{Refusal}
 use Rattle.element.specs.declared.answer.Answer.{Answer}
 use Rattle.element.specs.declared.answer.Answer.the-variants.{Filters, Identifiers, Bare, Refused}
 use Rattle.element.specs.declared.entries.Handed.{Handed}
@@ -20,6 +21,17 @@ numberOf (Filters operation) = 0
 numberOf Identifiers = 0
 numberOf (Bare operation) = 0
 numberOf (Refused refusal) = causeNumber (refusal .cause)
+
+-- "or the reader's cause": whether an answer is one
+pub data Verdict : Type 0 where
+  accepted : Verdict
+  refusedFor : Refusal → Verdict
+
+abbrev pub verdictOn : Answer → Verdict
+verdictOn (Filters operation) = accepted
+verdictOn Identifiers = accepted
+verdictOn (Bare operation) = accepted
+verdictOn (Refused refusal) = refusedFor refusal
 
 abbrev pub handedNumber : Handed → ℕ
 handedNumber (Filter identifier f) = 0

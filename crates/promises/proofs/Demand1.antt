@@ -20,7 +20,7 @@ use Rattle.element.specs.Write.{octetsOf, given, writtenBy, writeOf}
 use Rattle.table.specs.declared.bearer.Table.{Table}
 use Rattle.table.specs.WellFormed.{wellFormed}
 use Rattle.calls.specs.Modify.{malformed}
-use Rattle.calls.specs.Changes.{Keeps, Gives}
+use Rattle.calls.specs.Changes.{RefusalLeaves, Gives}
 use Rattle.calls.proofs.Answers.{modify-gives, activate-dedicated-gives, activate-default-gives, deactivate-gives, reject-gives, start-gives}
 use Rattle.calls.proofs.Theorems.{activate-default-malformed, activate-dedicated-malformed, modify-malformed, deactivate-malformed, reject-malformed, start-malformed, modify-refused, activate-dedicated-refused, activate-default-refused, deactivate-refused, reject-refused, start-refused}
 use Rattle.route.specs.declared.answer.Answer.{Answer as RouteAnswer}
@@ -66,7 +66,7 @@ element-answers value = go (readElement value .answer)
     go (Refused refusal) = cause (refusal .cause)
 
 -- "A refusal gives its number and leaves the table .. unchanged (a transaction matched at step 2 is still closed)"
-pub refusal-leaves : (t : Table) (c : Call) → Keeps (leftBy t c) (outcomeOf t c)
+pub refusal-leaves : (t : Table) (c : Call) → RefusalLeaves (leftBy t c) (outcomeOf t c)
 refusal-leaves t (activateDefault bearer) = activate-default-refused t bearer
 refusal-leaves t (activateDedicated bearer link transaction value) = activate-dedicated-refused t bearer link transaction value
 refusal-leaves t (modify bearer transaction value) = modify-refused t bearer transaction value

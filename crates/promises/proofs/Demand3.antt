@@ -23,8 +23,8 @@ use Rattle.table.specs.Ranges.{BearerInRange, TableInRange}
 use Rattle.table.specs.WellFormed.{filterFine, bearerFine, transactionsApart, transactionFrom, distinctTransactions, distinctAt, distinctPrecedences, wellFormed, Held, WellFormed}
 use Rattle.table.proofs.Meaning.{well-says}
 use Rattle.calls.specs.Modify.{modifyOf}
-use Rattle.calls.specs.Changes.{Kept, Unnamed}
-use Rattle.calls.proofs.Whole.{activate-default-kept, activate-dedicated-kept, modify-kept, deactivate-kept, reject-kept, start-kept}
+use Rattle.calls.specs.Changes.{Sound, Unnamed}
+use Rattle.calls.proofs.Whole.{activate-default-sound, activate-dedicated-sound, modify-sound, deactivate-sound, reject-sound, start-sound}
 use Rattle.calls.proofs.Laying.{modify-unnamed}
 use Rattle.route.specs.declared.answer.Route.{Route}
 use Rattle.route.specs.declared.answer.Answer.the-variants.{Routed}
@@ -58,47 +58,47 @@ empty-well : wellFormed emptyTable ≡ true
 unfolding emptyTable allBelow held emptyPlace filterFine bearerFine transactionsApart transactionFrom distinctTransactions distinctAt distinctPrecedences wellFormed
 empty-well = refl
 
-call-kept : (t : Table) → Kept t → (c : Call) → Sent c → Kept (outcomeOf t c .table)
-call-kept t k (activateDefault bearer) s = activate-default-kept t k bearer
-call-kept t k (activateDedicated bearer link transaction value) s = activate-dedicated-kept t k bearer link transaction value s
-call-kept t k (modify bearer transaction value) s = modify-kept t k bearer transaction value s
-call-kept t k (deactivate bearer transaction) s = deactivate-kept t k bearer transaction
-call-kept t k (reject transaction cause) s = reject-kept t k transaction cause
-call-kept t k (start transaction bearer) s = start-kept t k transaction bearer s
+call-sound : (t : Table) → Sound t → (c : Call) → Sent c → Sound (outcomeOf t c .table)
+call-sound t k (activateDefault bearer) s = activate-default-sound t k bearer
+call-sound t k (activateDedicated bearer link transaction value) s = activate-dedicated-sound t k bearer link transaction value s
+call-sound t k (modify bearer transaction value) s = modify-sound t k bearer transaction value s
+call-sound t k (deactivate bearer transaction) s = deactivate-sound t k bearer transaction
+call-sound t k (reject transaction cause) s = reject-sound t k transaction cause
+call-sound t k (start transaction bearer) s = start-sound t k transaction bearer s
 
-run-kept : (t : Table) → Kept t → (cs : List Call) → All Sent cs → Kept (run t cs)
+run-sound : (t : Table) → Sound t → (cs : List Call) → All Sent cs → Sound (run t cs)
 unfolding run
-run-kept t k [] s = k
-run-kept t k (c ∷ cs) s = run-kept (outcomeOf t c .table) (call-kept t k c (s .0)) cs (s .1)
+run-sound t k [] s = k
+run-sound t k (c ∷ cs) s = run-sound (outcomeOf t c .table) (call-sound t k c (s .0)) cs (s .1)
 
-pub reached-kept : (cs : List Call) → All Sent cs → Kept (reached cs)
-reached-kept = run-kept emptyTable (record { inRange = empty-in-range; well = well-says emptyTable empty-in-range .to empty-well })
+pub reached-sound : (cs : List Call) → All Sent cs → Sound (reached cs)
+reached-sound = run-sound emptyTable (record { inRange = empty-in-range; well = well-says emptyTable empty-in-range .to empty-well })
 
 module _ (cs : List Call) (sent : All Sent cs) where
   -- .. by the test too: no call of the sequence is answered with 1
   pub reached-well : wellFormed (reached cs) ≡ true
-  reached-well = let k = reached-kept cs sent in well-says (reached cs) (k .inRange) .from (k .well)
+  reached-well = let k = reached-sound cs sent in well-says (reached cs) (k .inRange) .from (k .well)
 
   -- "no two filters of a connection share a precedence"
   pub distinct-precedences : let t = reached cs in
       (i k j l : ℕ) → i < bearerCount → k < bearerCount → j < placeCount → l < placeCount → connectionAt t i ≡ connectionAt t k
       → Held (filterAt t i j) → Held (filterAt t k l) → filterAt t i j .precedence ≡ filterAt t k l .precedence → (i ≡ k) × (j ≡ l)
-  distinct-precedences = reached-kept cs sent .well .distinct
+  distinct-precedences = reached-sound cs sent .well .distinct
 
   -- "the ordered list's first fit is the route of the order-free rule": it is a right route, and there is no other ..
   pub first-fit-right : (default : ℕ) (h : Header) → let t = reached cs in Right t default h (routeOn t default h (listOf t default))
-  first-fit-right default h = let k = reached-kept cs sent in route-right (reached cs) (k .inRange) (k .well) default h
+  first-fit-right default h = let k = reached-sound cs sent in route-right (reached cs) (k .inRange) (k .well) default h
 
   pub one-route : (default : ℕ) (h : Header) (r s : Route) → Right (reached cs) default h r → Right (reached cs) default h s → r ≡ s
-  one-route default h = right-one (reached cs) (reached-kept cs sent .well) default h
+  one-route default h = right-one (reached cs) (reached-sound cs sent .well) default h
 
   -- .. and for an active default and a valid header it is what the call gives
   pub route-by-rule : (default : ℕ) (h : Header) → isDefault (roleOf (reached cs) default) ≡ true → validHeader h ≡ true
       → (r : Route) → (routeOf (reached cs) default h ≡ Routed r) ↔ Right (reached cs) default h r
-  route-by-rule default h d v = route-says (reached cs) default h (reached-kept cs sent .inRange) reached-well d v
+  route-by-rule default h d v = route-says (reached cs) default h (reached-sound cs sent .inRange) reached-well d v
 
   -- "A bearer that a modify doesn't name changes only in the three ways listed": it stays, its transaction perhaps closed; it loses exactly the filters
   -- whose precedence a new filter takes; or it goes with its released connection
   pub unnamed-bearer : (bearer transaction : ℕ) (value : List ℕ) (i : ℕ) → i < bearerCount → (identityOf i ≡ bearer → ⊥)
       → Unnamed (reached cs) bearer transaction (readElement value .filters) (modifyOf (reached cs) bearer transaction value) i
-  unnamed-bearer bearer transaction value i l = modify-unnamed (reached cs) (reached-kept cs sent .inRange) bearer transaction value i l
+  unnamed-bearer bearer transaction value i l = modify-unnamed (reached cs) (reached-sound cs sent .inRange) bearer transaction value i l

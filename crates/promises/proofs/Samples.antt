@@ -30,7 +30,7 @@ use Rattle.calls.specs.declared.reply.Answer.the-variants.{Accept, Reject, Rele
 use Rattle.calls.specs.declared.reply.Outcome.{Outcome}
 use Rattle.calls.specs.Reply.{causeNumber, refusalNumber}
 use Rattle.calls.specs.Steps.{opensAt, isOpen, closed, ofConnection, deletedIn, holdsIn, staysIn, empties}
-use Rattle.calls.specs.Lay.{old, takenBy, takes, conflict, placed, conflictIn, loses, placedIn, losesAt, frees, follows, released, followers, otherAt, onlyConnection, laidOn, laid}
+use Rattle.calls.specs.Lay.{old, takenBy, takes, conflict, placed, conflictIn, loses, placedIn, losesAt, conflictOnDefault, follows, released, followers, otherAt, onlyConnection, layWithin, layOf}
 use Rattle.promises.specs.Calls.{modify, outcomeOf}
 use Rattle.element.specs.Head.{headFine}
 use Rattle.calls.specs.Modify.{deleteFilters, deletedTft, modifyRead, modifyNamed, modifyOf}
@@ -124,5 +124,5 @@ pub samples : (
     ≡ (accepts 6 [] ∷ (10 ∷ []) ∷ rejects 6 42 ∷ rejects 6 42 ∷ accepts 6 [] ∷ rejects 6 41 ∷ rejects 6 41 ∷ rejects 5 42
     ∷ rejects 6 41 ∷ accepts 5 [] ∷ (0 ∷ []) ∷ rejects 6 44 ∷ rejects 6 44 ∷ rejects 6 45
     ∷ accepts 6 (7 ∷ []) ∷ (0 ∷ []) ∷ reattaches ∷ releases 5 ∷ accepts 6 [] ∷ [])
-unfolding allBelow anyBelow picks tab pad every isIn repeats sameUnder beFrom excluded added built held wellCoded emptyPlace validHeader agreesTransport agreesNetwork fits sample fittable lengthOf componentOf contentsFrom contentsOf splitOf parameters restFits framedBy framedOf noFilters noMarks codedOf entriesOf twice laidRow marked readValue readElement filterFine bearerFine transactionsApart transactionFrom distinctTransactions joined rowPrecedences connectionPrecedences distinctAt distinctPrecedences wellFormed opensAt isOpen closed ofConnection deletedIn holdsIn staysIn empties old takenBy takes conflict placed conflictIn loses placedIn losesAt frees follows released followers otherAt onlyConnection laidOn laid headFine deleteFilters deletedTft modifyRead modifyNamed modifyOf
+unfolding allBelow anyBelow picks tab pad every isIn repeats sameUnder beFrom excluded added built held wellCoded emptyPlace validHeader agreesTransport agreesNetwork fits sample fittable lengthOf componentOf contentsFrom contentsOf splitOf parameters restFits framedBy framedOf noFilters noMarks codedOf entriesOf twice laidRow marked readValue readElement filterFine bearerFine transactionsApart transactionFrom distinctTransactions joined rowPrecedences connectionPrecedences distinctAt distinctPrecedences wellFormed opensAt isOpen closed ofConnection deletedIn holdsIn staysIn empties old takenBy takes conflict placed conflictIn loses placedIn losesAt conflictOnDefault follows released followers otherAt onlyConnection layWithin layOf headFine deleteFilters deletedTft modifyRead modifyNamed modifyOf
 samples = refl

@@ -24,7 +24,7 @@ use Rattle.table.specs.declared.bearer.Role.the-variants.{Idle, Default, Dedica
 use Rattle.table.specs.Bearers.{roleAt, emptyTable}
 use Rattle.table.specs.WellFormed.{filterFine, bearerFine, transactionsApart, transactionFrom, distinctTransactions, rowPrecedences, connectionPrecedences, distinctAt, distinctPrecedences, wellFormed}
 use Rattle.calls.specs.Steps.{opensAt, isOpen, closed, ofConnection, deletedIn, holdsIn, staysIn, empties}
-use Rattle.calls.specs.Lay.{old, takenBy, takes, conflict, placed, conflictIn, loses, placedIn, losesAt, frees, follows, released, followers, otherAt, onlyConnection, laidOn, laid}
+use Rattle.calls.specs.Lay.{old, takenBy, takes, conflict, placed, conflictIn, loses, placedIn, losesAt, conflictOnDefault, follows, released, followers, otherAt, onlyConnection, layWithin, layOf}
 use Rattle.element.specs.Head.{headFine}
 use Rattle.calls.specs.Modify.{deleteFilters, deletedTft, modifyRead, modifyNamed, modifyOf}
 use Rattle.calls.specs.Others.{activateDefaultOf, activateRead, activateNamed, activateDedicatedOf, deactivateOf, rejectOf, startOf}
@@ -59,5 +59,5 @@ pub sequence : (
     told (roleAt (reached calls) 0) ∷ told (roleAt (reached calls) 1) ∷ told (roleAt (reached calls) 2)
     ∷ way (routeOf (reached calls) 5 (udpTo 5060)) ∷ way (routeOf (reached calls) 5 (udpTo 5061)) ∷ [])
     ≡ (1 ∷ 5 ∷ 0 ∷ 6 ∷ 5 ∷ [])
-unfolding run emptyTable allBelow anyBelow picks tab pad walk every isIn repeats sameUnder beFrom excluded added built held wellCoded emptyPlace validHeader agreesTransport agreesNetwork fits sample fittable lengthOf componentOf contentsFrom contentsOf splitOf parameters restFits framedBy framedOf noFilters noMarks codedOf elementEntries twice laidRow marked readValue readElement filterFine bearerFine transactionsApart transactionFrom distinctTransactions joined rowPrecedences connectionPrecedences distinctAt distinctPrecedences wellFormed opensAt isOpen closed ofConnection deletedIn holdsIn staysIn empties old takenBy takes conflict placed conflictIn loses placedIn losesAt frees follows released followers otherAt onlyConnection laidOn laid headFine deleteFilters deletedTft modifyRead modifyNamed modifyOf activateDefaultOf activateRead activateNamed activateDedicatedOf uplink emptyList putFilter putRow putBearer entriesOf named entryFits firstFit uplinkAt hasUplink otherwiseOf routeOn routeOf
+unfolding run emptyTable allBelow anyBelow picks tab pad walk every isIn repeats sameUnder beFrom excluded added built held wellCoded emptyPlace validHeader agreesTransport agreesNetwork fits sample fittable lengthOf componentOf contentsFrom contentsOf splitOf parameters restFits framedBy framedOf noFilters noMarks codedOf elementEntries twice laidRow marked readValue readElement filterFine bearerFine transactionsApart transactionFrom distinctTransactions joined rowPrecedences connectionPrecedences distinctAt distinctPrecedences wellFormed opensAt isOpen closed ofConnection deletedIn holdsIn staysIn empties old takenBy takes conflict placed conflictIn loses placedIn losesAt conflictOnDefault follows released followers otherAt onlyConnection layWithin layOf headFine deleteFilters deletedTft modifyRead modifyNamed modifyOf activateDefaultOf activateRead activateNamed activateDedicatedOf uplink emptyList putFilter putRow putBearer entriesOf named entryFits firstFit uplinkAt hasUplink otherwiseOf routeOn routeOf
 sequence = refl

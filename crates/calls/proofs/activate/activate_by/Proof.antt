@@ -1,8 +1,23 @@
--- `calls::activate::activate_by` meets its contract: by the answer that was read.
+-- `calls::activate::activate_by` meets its contract: the cause that was read, or the filters laid.
 -- Assumes nothing.
+use mathlib.Core.Path.{_≡_, refl}
+use mathlib.Core.List.{[], _∷_}
+use types.Run.{OneOf, miss}
+use denote.Enum.Declared.{tagOf}
+use Rattle.element.specs.declared.answer.Answer.{Answer}
+use Rattle.element.specs.declared.answer.Answer.the-variants.{Filters, Identifiers, Bare, Refused}
+use Rattle.element.specs.Numbers.{accepted, verdictOn}
+use Rattle.element.proofs.answer.Answer.{the-type}
 use borrow.Author.Needs.{needs}
 use Rattle.calls.proofs.activate.activate_by.Statement.{statement}
 use Rattle.calls.proofs.activate.activate_by.Tie as tie
+
+-- an answer of one of the first three cases is no cause
+no-cause : (a : Answer) → OneOf (0 ∷ 1 ∷ 2 ∷ []) (tagOf the-type a) → verdictOn a ≡ accepted
+no-cause (Filters operation) n = refl
+no-cause Identifiers n = refl
+no-cause (Bare operation) n = refl
+no-cause (Refused refusal) n = absurd (miss (0 ∷ 1 ∷ 2 ∷ []) 3 tt n)
 
 pub activate-by-spec : {M : Type 1} → statement M
 activate-by-spec =
@@ -11,15 +26,8 @@ activate-by-spec =
     (λ c. search needs)
     (λ c κs. search needs)
     (λ c κs. search needs)
-    (λ c. search needs)
     (λ c κs. search needs)
     (λ c κs. search needs)
-    (λ c κs. search needs)
-    (λ c. search needs)
-    (λ c κs. search needs)
-    (λ c. search needs)
     (λ c κs. search needs)
     (λ c. rw (c .before .before .before .answer .given .1) (rw (c .before .cause-of .ensures) at (c .reject-with .ensures)))
-    (λ c. rw (c .before .before .before .enum-told .given .1) (rw (c .before .opened-table .ensures, c .before .before .index-of .ensures) at (c .lay .ensures)))
-    (λ c. rw (c .before .enum-told2 .given .1) (c .reject-with2 .ensures))
-    (λ c. rw (c .before .enum-told3 .given .1) (c .reject-with3 .ensures)))
+    (λ c. rw (no-cause (c .before .before .before .before .before .args .e .answer) (c .before .before .before .match .keys2)) (rw (c .before .opened-table .ensures, c .before .before .index-of .ensures) at (c .lay .ensures))))

@@ -1,4 +1,4 @@
--- `calls::activate::activate_default` meets its contract: a malformed table is refused, then an identity that is not free; else the bearer is a default.
+-- `calls::activate::activate_default` meets its contract: a malformed table is refused, then an identity that is in use or out of range; else the bearer is a default.
 -- Assumes nothing.
 use mathlib.Core.Path.{_≡_, sym, _∙_}
 use mathlib.Core.Bool.{true}
@@ -22,8 +22,8 @@ activate-default-spec =
     (λ c. rw (sym (c .before .before .well-formed .ensures) ∙ not-true _ (c .before .if1 .taken)) (c .malformed-table .ensures))
     (λ c κs. search needs)
     (λ c κs. search needs)
-    (λ c. rw (fine (c .before .before .before), sym (c .before .before .is-free .ensures) ∙ not-true _ (c .before .if2 .taken)) (c .reject-with .ensures))
+    (λ c. rw (fine (c .before .before .before), sym (c .before .before .is-unused .ensures) ∙ not-true _ (c .before .if2 .taken)) (c .reject-with .ensures))
     (λ c κs. search needs)
     (λ c κs. search needs)
     (λ c κs. search needs)
-    (λ c. rw (fine (c .before .before .before .before .before), sym (c .before .before .before .before .is-free .ensures) ∙ not-false _ (c .before .before .before .if2 .left)) (rw (c .before .opened-table .ensures, c .before .before .index-of .ensures) at (c .answer-with .ensures))))
+    (λ c. rw (fine (c .before .before .before .before .before), sym (c .before .before .before .before .is-unused .ensures) ∙ not-false _ (c .before .before .before .if2 .left)) (rw (c .before .opened-table .ensures, c .before .before .index-of .ensures) at (c .answer-with .ensures))))

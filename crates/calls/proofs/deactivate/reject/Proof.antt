@@ -25,4 +25,4 @@ reject-spec =
     (λ c. rw (fine (c .before .before .before), sym (c .before .before .is-open .ensures) ∙ not-true _ (c .before .if2 .taken)) (c .answer-with .ensures))
     (λ c κs. search needs)
     (λ c κs. search needs)
-    (λ c. rw (fine (c .before .before .before .before), sym (c .before .before .before .is-open .ensures) ∙ not-false _ (c .before .before .if2 .left)) (rw (c .before .rejected-table .ensures) at (c .answer-with2 .ensures))))
+    (λ c. rw (fine (c .before .before .before .before), sym (c .before .before .before .is-open .ensures) ∙ not-false _ (c .before .before .if2 .left)) (rw (c .before .after-reject .ensures) at (c .answer-with2 .ensures))))

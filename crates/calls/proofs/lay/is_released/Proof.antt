@@ -15,31 +15,31 @@ use borrow.Author.Needs.{needs}
 use Rattle.calls.proofs.lay.is_released.Statement.{statement}
 use Rattle.calls.proofs.lay.is_released.Tie as tie
 
-abbrev freed : List Role → List Bool → ℕ → Bool
-freed roles lost i = isDefault (getD roles i Idle) && getD lost i false
+abbrev defaultLoses : List Role → List Bool → ℕ → Bool
+defaultLoses roles lost i = isDefault (getD roles i Idle) && getD lost i false
 
 abbrev Inv-loop : tie.InvT-loop
-Inv-loop roles lost any₀ i₀ any i = (i ≤ bearerCount) × (any ≡ anyBelow (freed roles lost) i)
+Inv-loop roles lost any₀ i₀ any i = (i ≤ bearerCount) × (any ≡ anyBelow (defaultLoses roles lost) i)
 
 abbrev μ-loop : tie.MeasureT-loop
 μ-loop roles lost any₀ i₀ any i = bearerCount - i
 
 loop-holds : tie.Need-loop-holds Inv-loop μ-loop
-loop-holds c = (omega arith, any-start (freed (c .args .t1) (c .args .t2)))
+loop-holds c = (omega arith, any-start (defaultLoses (c .args .t1) (c .args .t2)))
 
 loop-again : tie.Need-loop-again Inv-loop μ-loop
 loop-again c =
     let a = c .before .before .before .before .args in
     let l = c .before .before .before .loop in (
       omega arith,
-      any-more (freed (a .t1) (a .t2)) (l .i) (l .any) _ (ap (λ (b : Bool). l .any || (b && getD (a .t2) (l .i) false)) (c .is-default .ensures)) (l .inv .1),
+      any-more (defaultLoses (a .t1) (a .t2)) (l .i) (l .any) _ (ap (λ (b : Bool). l .any || (b && getD (a .t2) (l .i) false)) (c .is-default .ensures)) (l .inv .1),
     )
 
 returns : tie.Need-returns Inv-loop μ-loop
 returns c =
     let a = c .before .before .args in
     let l = c .before .loop in
-    done (anyBelow (freed (a .t1) (a .t2))) (l .i) bearerCount _ (omega arith) (omega arith) (l .inv .1)
+    done (anyBelow (defaultLoses (a .t1) (a .t2))) (l .i) bearerCount _ (omega arith) (omega arith) (l .inv .1)
 
 pub is-released-spec : {M : Type 1} → statement M
 is-released-spec =

@@ -24,7 +24,7 @@ use Rattle.table.specs.WellFormed.{Held, Well, WellFormed}
 use Rattle.table.proofs.Meaning.{Fine, idle-says, range-says}
 use Rattle.calls.specs.Steps.{opensAt, closedView, closed, startedView, openedView, cutView, ofConnection, isAt, droppedBy, dropped, deletedIn, deletedView}
 use Rattle.calls.specs.Changes.{Taken, Void}
-use Rattle.calls.specs.Lay.{old, takenBy, takes, conflict, placed, placedIn, laidView, released, laidBy, laidOn, laid}
+use Rattle.calls.specs.Lay.{old, takenBy, takes, conflict, placed, placedIn, laidView, released, layOrRelease, layWithin, layOf}
 use Rattle.calls.proofs.Views.{role-built, transaction-built, filter-built}
 
 abbrev rank : Filter → ℕ
@@ -378,11 +378,11 @@ active-at t bearer = go (isIdentity bearer) refl
 
 -- new filters on an active bearer, whether or not the connection is released
 pub laid-well : (t : Table) (bearer : ℕ) (new : List Filter) (create : Bool) → WellFormed t → (roleAt t (indexOf bearer) ≡ Idle → ⊥) → WellSet new
-    → WellFormed (laid t bearer new create .table)
-unfolding laid laidOn
+    → WellFormed (layOf t bearer new create .table)
+unfolding layOf layWithin
 laid-well t bearer new create w active ok = go (released new create t (indexOf bearer) (connectionAt t (indexOf bearer)))
   where
-    go : (b : Bool) → WellFormed (laidBy b t bearer (connectionAt t (indexOf bearer)) new create .table)
+    go : (b : Bool) → WellFormed (layOrRelease b t bearer (connectionAt t (indexOf bearer)) new create .table)
     go true = well-built (cutView t (ofConnection t (connectionAt t (indexOf bearer)))) (well-connection t w (connectionAt t (indexOf bearer)))
     go false =
         well-built (laidView new create t (indexOf bearer) (connectionAt t (indexOf bearer)))

@@ -1,4 +1,4 @@
--- `calls::lay::lay_on` meets its contract: the laid table where the default stays; else the connection goes, answered by whether it was the only one.
+-- `calls::lay::lay_within` meets its contract: the laid table where the default stays; else the connection goes, answered by whether it was the only one.
 -- Assumes nothing.
 use mathlib.Core.Path.{_≡_, sym, _∙_, subst}
 use mathlib.Core.Bool.{Bool, false}
@@ -11,20 +11,20 @@ use Rattle.table.specs.Bearers.{indexOf, build}
 use Rattle.calls.specs.declared.reply.Answer.the-variants.{Accept}
 use Rattle.calls.specs.declared.reply.Outcome.{Outcome}
 use Rattle.calls.specs.Reply.{outcome}
-use Rattle.calls.specs.Lay.{released, laidView, followers, laidOn}
+use Rattle.calls.specs.Lay.{released, laidView, followers, layWithin}
 use Rattle.calls.proofs.Conflicts.{released-by, followers-by}
 use borrow.Author.Needs.{needs}
-use Rattle.calls.proofs.lay.lay_on.Statement.{statement}
-use Rattle.calls.proofs.lay.lay_on.Tie as tie
+use Rattle.calls.proofs.lay.lay_within.Statement.{statement}
+use Rattle.calls.proofs.lay.lay_within.Tie as tie
 
 module _ (t : Table) (bearer connection : ℕ) (new : List Filter) (create : Bool) where
   -- what the code makes, with k for the bearer's index
   abbrev made : ℕ → Outcome
   made k = outcome (build (laidView new create t k connection)) (Accept bearer) (followers new create t k connection)
 
-  not-released : (k : ℕ) → k ≡ indexOf bearer → released new create t k connection ≡ false → made k ≡ laidOn t bearer connection new create
-  unfolding laidOn
-  not-released k e = subst (λ (k : ℕ). released new create t k connection ≡ false → made k ≡ laidOn t bearer connection new create) (sym e) (λ h. rw h)
+  not-released : (k : ℕ) → k ≡ indexOf bearer → released new create t k connection ≡ false → made k ≡ layWithin t bearer connection new create
+  unfolding layWithin
+  not-released k e = subst (λ (k : ℕ). released new create t k connection ≡ false → made k ≡ layWithin t bearer connection new create) (sym e) (λ h. rw h)
 
 returns : tie.Need-returns
 returns c =
@@ -39,7 +39,7 @@ returns c =
     ∙ not-true (p .is-released .result) (c .before .before .if1 .taken)))
 
 returns-2 : tie.Need-returns-2
-unfolding laidOn
+unfolding layWithin
 returns-2 c =
     let q = c .before .before in
     let p = q .before .before .before in
@@ -58,7 +58,7 @@ returns-2 c =
     (cc)
 
 returns-3 : tie.Need-returns-3
-unfolding laidOn
+unfolding layWithin
 returns-3 c =
     let q = c .before .before in
     let p = q .before .before .before in
@@ -76,8 +76,8 @@ returns-3 c =
     )
     (cc)
 
-pub lay-on-spec : {M : Type 1} → statement M
-lay-on-spec =
+pub lay-within-spec : {M : Type 1} → statement M
+lay-within-spec =
     tie.close
     (tie.spec
     (λ c κs. search needs) (λ c κs. search needs) (λ c κs. search needs) (λ c κs. search needs) (λ c κs. search needs) (λ c κs. search needs)

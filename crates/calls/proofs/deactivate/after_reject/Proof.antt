@@ -1,11 +1,11 @@
--- `calls::deactivate::rejected_table` meets its contract: the transaction is closed, and its bearer dropped where it is gone.
+-- `calls::deactivate::after_reject` meets its contract: the transaction is closed, and its bearer dropped where it is gone.
 -- Assumes nothing.
 use borrow.Author.Needs.{needs}
-use Rattle.calls.proofs.deactivate.rejected_table.Statement.{statement}
-use Rattle.calls.proofs.deactivate.rejected_table.Tie as tie
+use Rattle.calls.proofs.deactivate.after_reject.Statement.{statement}
+use Rattle.calls.proofs.deactivate.after_reject.Tie as tie
 
-pub rejected-table-spec : {M : Type 1} → statement M
-rejected-table-spec =
+pub after-reject-spec : {M : Type 1} → statement M
+after-reject-spec =
     tie.close
     (tie.spec
     (λ c κs. search needs)
