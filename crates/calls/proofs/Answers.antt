@@ -14,6 +14,7 @@ use Rattle.element.specs.declared.answer.BareOperation.the-variants.{DeleteTft,
 use Rattle.element.specs.declared.answer.Answer.{Answer as ReadAnswer}
 use Rattle.element.specs.declared.answer.Answer.the-variants.{Filters, Identifiers, Bare, Refused as readRefused}
 use Rattle.element.specs.declared.answer.Element.{Element}
+use Rattle.laws.proofs.Says.{picked}
 use Rattle.element.specs.Numbers.{Verdict, accepted, refusedFor, verdictOn}
 use Rattle.element.specs.Read.{readElement}
 use Rattle.table.specs.declared.bearer.Role.the-variants.{Dedicated}
@@ -24,7 +25,7 @@ use Rattle.calls.specs.declared.reply.Outcome.{Outcome}
 use Rattle.calls.specs.Reply.{causeNumber, numberOf, causeOf}
 use Rattle.calls.specs.Steps.{isOpen, closed, openedView, empties}
 use Rattle.calls.specs.Lay.{layOf}
-use Rattle.element.specs.Head.{operationOf, headFine}
+use Rattle.element.specs.Head.{create, deleteTft, operationOf, headFine}
 use Rattle.calls.specs.Modify.{mismatch, creates, deleteFilters, deletedTft, modifiedBy, modifyRead, modifyNamed, modifyOf}
 use Rattle.calls.specs.Others.{unused, activateDefaultOf, activatedBy, activateRead, activateNamed, activateDedicatedOf, deactivateOf, rejectOf, startOf}
 use Rattle.calls.specs.Changes.{Gives}
@@ -33,10 +34,6 @@ use Rattle.calls.proofs.Theorems.{laid-number}
 -- modify and dedicated activation
 abbrev pub causes : List ℕ
 causes = 0 ∷ 1 ∷ 41 ∷ 42 ∷ 43 ∷ 44 ∷ 45 ∷ 47 ∷ []
-
-pick-gives : (b : Bool) (ns : List ℕ) (o p : Outcome) → Gives ns o → Gives ns p → Gives ns (pick b o p)
-pick-gives true ns o p g h = g
-pick-gives false ns o p g h = h
 
 cause-in : (cause : ReadCause) → isIn (causeNumber (causeOf cause)) causes ≡ true
 unfolding isIn
@@ -52,7 +49,7 @@ modified-gives : (a : ReadAnswer) (t : Table) (bearer : ℕ) (e : Element) → G
 unfolding isIn deleteFilters deletedTft
 modified-gives (readRefused refusal) t bearer e = cause-in (refusal .cause)
 modified-gives (Filters operation) t bearer e = laid-gives t bearer (e .filters) (creates operation)
-modified-gives Identifiers t bearer e = pick-gives (isDedicated (roleOf t bearer) && empties t (indexOf bearer) (e .marks)) causes _ _ refl refl
+modified-gives Identifiers t bearer e = picked (Gives causes) (isDedicated (roleOf t bearer) && empties t (indexOf bearer) (e .marks)) _ _ refl refl
 modified-gives (Bare DeleteTft) t bearer e = refl
 modified-gives (Bare NoOperation) t bearer e = refl
 
@@ -65,44 +62,44 @@ module _ (t : Table) where
   unfolding isIn modifyOf modifyNamed modifyRead
   modify-gives bearer x value =
       let s = closed t x in
-      pick-gives (wellFormed t) causes _ _
-      (pick-gives (mismatch t x) causes _ _ refl
-      (pick-gives (isIdle (roleOf s bearer)) causes _ _ refl
-      (pick-gives (headFine value) causes _ _
-      (pick-gives (isDedicated (roleOf s bearer) && eqb (operationOf value) 2) causes _ _ refl
+      picked (Gives causes) (wellFormed t) _ _
+      (picked (Gives causes) (mismatch t x) _ _ refl
+      (picked (Gives causes) (isIdle (roleOf s bearer)) _ _ refl
+      (picked (Gives causes) (headFine value) _ _
+      (picked (Gives causes) (isDedicated (roleOf s bearer) && eqb (operationOf value) deleteTft) _ _ refl
       (modified-gives (readElement value .answer) s bearer (readElement value))) refl))) refl
 
   pub activate-dedicated-gives : (bearer link x : ℕ) (value : List ℕ) → Gives causes (activateDedicatedOf t bearer link x value)
   unfolding isIn activateDedicatedOf activateNamed activateRead
   activate-dedicated-gives bearer link x value =
       let s = closed t x in
-      pick-gives (wellFormed t) causes _ _
-      (pick-gives (mismatch t x) causes _ _ refl
-      (pick-gives (unused s bearer && isDefault (roleOf s link)) causes _ _
-      (pick-gives (headFine value) causes _ _
-      (pick-gives (eqb (operationOf value) 1) causes _ _ (activated-gives (verdictOn (readElement value .answer)) s bearer link (readElement value .filters)) refl) refl) refl)) refl
+      picked (Gives causes) (wellFormed t) _ _
+      (picked (Gives causes) (mismatch t x) _ _ refl
+      (picked (Gives causes) (unused s bearer && isDefault (roleOf s link)) _ _
+      (picked (Gives causes) (headFine value) _ _
+      (picked (Gives causes) (eqb (operationOf value) create) _ _ (activated-gives (verdictOn (readElement value .answer)) s bearer link (readElement value .filters)) refl) refl) refl)) refl
 
   pub activate-default-gives : (bearer : ℕ) → Gives (0 ∷ 1 ∷ 43 ∷ []) (activateDefaultOf t bearer)
   unfolding isIn activateDefaultOf
   activate-default-gives bearer =
       let ns : List ℕ = 0 ∷ 1 ∷ 43 ∷ [] in
-      pick-gives (wellFormed t) ns _ _ (pick-gives (unused t bearer) ns _ _ refl refl) refl
+      picked (Gives ns) (wellFormed t) _ _ (picked (Gives ns) (unused t bearer) _ _ refl refl) refl
 
   pub deactivate-gives : (bearer x : ℕ) → Gives (0 ∷ 1 ∷ []) (deactivateOf t bearer x)
   unfolding isIn deactivateOf
-  deactivate-gives bearer x = pick-gives (wellFormed t) (0 ∷ 1 ∷ []) _ _ refl refl
+  deactivate-gives bearer x = picked (Gives (0 ∷ 1 ∷ [])) (wellFormed t) _ _ refl refl
 
   pub reject-gives : (x cause : ℕ) → Gives (0 ∷ 1 ∷ 3 ∷ []) (rejectOf t x cause)
   unfolding isIn rejectOf
   reject-gives x cause =
       let ns : List ℕ = 0 ∷ 1 ∷ 3 ∷ [] in
-      pick-gives (wellFormed t) ns _ _ (pick-gives (isOpen t x) ns _ _ refl refl) refl
+      picked (Gives ns) (wellFormed t) _ _ (picked (Gives ns) (isOpen t x) _ _ refl refl) refl
 
   pub start-gives : (x bearer : ℕ) → Gives (0 ∷ 1 ∷ 4 ∷ 5 ∷ 6 ∷ 7 ∷ []) (startOf t x bearer)
   unfolding isIn startOf
   start-gives x bearer =
       let ns : List ℕ = 0 ∷ 1 ∷ 4 ∷ 5 ∷ 6 ∷ 7 ∷ [] in
-      pick-gives (wellFormed t) ns _ _
-      (pick-gives (eqb x 0 || eqb x 255) ns _ _ refl
-      (pick-gives (isIdle (roleOf t bearer)) ns _ _ refl
-      (pick-gives (eqb (transactionAt t (indexOf bearer)) 0) ns _ _ (pick-gives (isOpen t x) ns _ _ refl refl) refl))) refl
+      picked (Gives ns) (wellFormed t) _ _
+      (picked (Gives ns) (eqb x 0 || eqb x 255) _ _ refl
+      (picked (Gives ns) (isIdle (roleOf t bearer)) _ _ refl
+      (picked (Gives ns) (eqb (transactionAt t (indexOf bearer)) 0) _ _ (picked (Gives ns) (isOpen t x) _ _ refl refl) refl))) refl

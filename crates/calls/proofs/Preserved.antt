@@ -45,9 +45,9 @@ pub fine-at : (v : View) → Well v → (i j : ℕ) → i < bearerCount → j < 
 fine-at v w i j l m = record { zeroed = w .zeroed i j l m; coded = w .coded i j l m; fitted = w .fitted i j l m }
 
 -- ---- what was there stays or is gone
-picked : {A : Type 0} (b : Bool) (x y : A) → (pick b x y ≡ y) ⊎ (pick b x y ≡ x)
-picked true x y = inr refl
-picked false x y = inl refl
+either-stands : {A : Type 0} (b : Bool) (x y : A) → (pick b x y ≡ y) ⊎ (pick b x y ≡ x)
+either-stands true x y = inr refl
+either-stands false x y = inl refl
 
 -- the bearer stays or is gone with all it holds; so do its transaction and each of its filters
 pub record Less (v u : View) (i : ℕ) : Type 0 where
@@ -102,7 +102,7 @@ well-built v w =
 module _ (t : Table) (w : WellFormed t) (x : ℕ) where
   pub well-closed : Well (closedView t x)
   well-closed =
-      well-less (view t) (closedView t x) w (λ i l. record { role = inl refl; transaction = picked (opensAt t x i) 0 (transactionAt t i); filter = λ j m. inl refl })
+      well-less (view t) (closedView t x) w (λ i l. record { role = inl refl; transaction = either-stands (opensAt t x i) 0 (transactionAt t i); filter = λ j m. inl refl })
       (λ i link l a b r h d. d)
 
   pub closed-well : WellFormed (closed t x)
@@ -203,7 +203,7 @@ module _ (t : Table) (w : WellFormed t) (gone : ℕ → Bool) (along : Along t g
   pub well-cut : Well (cutView t gone)
   well-cut =
       well-less (view t) (cutView t gone) w
-      (λ i l. record { role = void i (gone i) refl; transaction = picked (gone i) 0 (transactionAt t i); filter = λ j m. picked (gone i) emptyFilter (filterAt t i j) })
+      (λ i l. record { role = void i (gone i) refl; transaction = either-stands (gone i) 0 (transactionAt t i); filter = λ j m. either-stands (gone i) emptyFilter (filterAt t i j) })
       (λ i link l a b r h d. links i link l a b r d h (gone (indexOf link)) refl)
     where
       void : (i : ℕ) (b : Bool) → gone i ≡ b → (cutView t gone .role i ≡ roleAt t i) ⊎ Void (cutView t gone) i
@@ -258,7 +258,7 @@ pub well-deleted : (t : Table) → WellFormed t → (k : ℕ) (marks : List Bool
 unfolding deletedIn
 well-deleted t w k marks =
     well-less (view t) (deletedView t k marks) w
-    (λ i l. record { role = inl refl; transaction = inl refl; filter = λ j m. picked (eqb i k && getD marks j false) emptyFilter (filterAt t i j) })
+    (λ i l. record { role = inl refl; transaction = inl refl; filter = λ j m. either-stands (eqb i k && getD marks j false) emptyFilter (filterAt t i j) })
     (λ i link l a b r h d. d)
 
 -- ---- new filters

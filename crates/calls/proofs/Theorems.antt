@@ -1,17 +1,22 @@
 -- The theorems of the layer.
-use mathlib.Core.Path.{_≡_, refl}
+use mathlib.Core.Path.{_≡_, refl, sym, _∙_, ap, subst}
+use mathlib.Core.Logic.{⊎-elim}
 use mathlib.Core.Bool.{Bool, true, false, not, _&&_, _||_}
 use mathlib.Core.List.{List}
 use Prim.Native.Nat.{ℕ}
 use lib.Dec.{eqb}
 use Rattle.laws.specs.Says.{pick}
 use Rattle.filter.specs.declared.component.Filter.{Filter}
+use Rattle.element.specs.declared.answer.SetOperation.the-variants.{Create}
+use Rattle.element.specs.declared.answer.Refusal.{Refusal}
 use Rattle.element.specs.declared.answer.BareOperation.the-variants.{DeleteTft, NoOperation}
 use Rattle.element.specs.declared.answer.Answer.{Answer as ReadAnswer}
 use Rattle.element.specs.declared.answer.Answer.the-variants.{Filters, Identifiers, Bare, Refused as readRefused}
 use Rattle.element.specs.declared.answer.Element.{Element}
+use Rattle.laws.proofs.Says.{picked}
 use Rattle.element.specs.Numbers.{Verdict, accepted, refusedFor, verdictOn}
 use Rattle.element.specs.Read.{readElement}
+use Rattle.element.proofs.Theorems.{create-reads}
 use Rattle.table.specs.declared.bearer.Role.the-variants.{Dedicated}
 use Rattle.table.specs.declared.bearer.Table.{Table}
 use Rattle.table.specs.Bearers.{indexOf, transactionAt, build, isIdle, isDefault, isDedicated, roleOf, connectionAt}
@@ -23,7 +28,7 @@ use Rattle.calls.specs.Reply.{numberOf, rejectedWith}
 use Rattle.calls.specs.Changes.{Refuses, RefusalLeaves}
 use Rattle.calls.specs.Steps.{isOpen, closed, openedView, empties}
 use Rattle.calls.specs.Lay.{released, onlyConnection, layOrRelease, layWithin, layOf}
-use Rattle.element.specs.Head.{operationOf, headFine}
+use Rattle.element.specs.Head.{create, deleteTft, operationOf, headFine}
 use Rattle.calls.specs.Modify.{malformed, mismatch, creates, deleteFilters, deletedTft, modifiedBy, modifyRead, modifyNamed, modifyOf}
 use Rattle.calls.specs.Others.{unused, activateDefaultOf, activatedBy, activateRead, activateNamed, activateDedicatedOf, deactivateOf, rejectOf, startOf}
 
@@ -54,10 +59,6 @@ module _ (t : Table) (e : wellFormed t ≡ false) where
   start-malformed x bearer = rw e
 
 -- ---- every refusal leaves the table as it was, but for the transaction matched at step 2
-pick-leaves : (b : Bool) (t : Table) (o p : Outcome) → RefusalLeaves t o → RefusalLeaves t p → RefusalLeaves t (pick b o p)
-pick-leaves true t o p k l = k
-pick-leaves false t o p k l = l
-
 -- laying filters refuses nothing
 release-number : (b : Bool) (connection : ℕ) → numberOf (pick b Reattach (Release connection)) ≡ 0
 release-number true connection = refl
@@ -78,7 +79,7 @@ laid-number t bearer new create =
 delete-filters-leaves : (t : Table) (bearer : ℕ) (marks : List Bool) → RefusalLeaves t (deleteFilters t bearer marks)
 unfolding deleteFilters
 delete-filters-leaves t bearer marks =
-    pick-leaves (isDedicated (roleOf t bearer) && empties t (indexOf bearer) marks) t _ _ (λ r. refl) (λ r. absurd (r refl))
+    picked (RefusalLeaves t) (isDedicated (roleOf t bearer) && empties t (indexOf bearer) marks) _ _ (λ r. refl) (λ r. absurd (r refl))
 
 modified-by-leaves : (a : ReadAnswer) (t : Table) (bearer : ℕ) (e : Element) → RefusalLeaves t (modifiedBy a t bearer e)
 unfolding deletedTft
@@ -91,33 +92,40 @@ modified-by-leaves (Bare NoOperation) t bearer e r = refl
 modify-read-leaves : (t : Table) (bearer : ℕ) (value : List ℕ) → RefusalLeaves t (modifyRead t bearer value)
 unfolding modifyRead
 modify-read-leaves t bearer value =
-    pick-leaves
-    (isDedicated (roleOf t bearer) && eqb (operationOf value) 2) t _ _ (λ r. refl)
+    picked (RefusalLeaves t) (isDedicated (roleOf t bearer) && eqb (operationOf value) deleteTft) _ _ (λ r. refl)
     (modified-by-leaves (readElement value .answer) t bearer (readElement value))
 
 modify-named-leaves : (t : Table) (bearer : ℕ) (value : List ℕ) → RefusalLeaves t (modifyNamed t bearer value)
 unfolding modifyNamed
 modify-named-leaves t bearer value =
-    pick-leaves
-    (isIdle (roleOf t bearer)) t _ _ (λ r. refl) (pick-leaves (headFine value) t _ _ (modify-read-leaves t bearer value) (λ r. refl))
+    picked (RefusalLeaves t) (isIdle (roleOf t bearer)) _ _ (λ r. refl) (picked (RefusalLeaves t) (headFine value) _ _ (modify-read-leaves t bearer value) (λ r. refl))
 
 -- dedicated activation, likewise
+abbrev Accepted : Verdict → Type 0
+Accepted accepted = Unit {0}
+Accepted (refusedFor refusal) = ⊥
+
 activated-by-leaves : (v : Verdict) (t : Table) (bearer link : ℕ) (new : List Filter) → RefusalLeaves t (activatedBy v t bearer link new)
 activated-by-leaves (refusedFor refusal) t bearer link new r = refl
 activated-by-leaves accepted t bearer link new r = absurd (r (laid-number (build (openedView t (indexOf bearer) (Dedicated link))) bearer new true))
 
+-- what a dedicated activation lays after step 5 is a create's: such an element reads as nothing else, but for a cause
+pub activates-create : (value : List ℕ) → operationOf value ≡ create → verdictOn (readElement value .answer) ≡ accepted → readElement value .answer ≡ Filters Create
+activates-create value h v = ⊎-elim (λ e. e) (λ c. absurd (refused (c .refusal) (ap verdictOn (sym (c .is)) ∙ v))) (create-reads value h)
+  where
+    refused : (refusal : Refusal) → refusedFor refusal ≡ accepted → ⊥
+    refused refusal e = subst Accepted (sym e) tt
+
 activate-read-leaves : (t : Table) (bearer link : ℕ) (value : List ℕ) → RefusalLeaves t (activateRead t bearer link value)
 unfolding activateRead
 activate-read-leaves t bearer link value =
-    pick-leaves
-    (eqb (operationOf value) 1) t _ _ (activated-by-leaves (verdictOn (readElement value .answer)) t bearer link (readElement value .filters)) (λ r. refl)
+    picked (RefusalLeaves t) (eqb (operationOf value) create) _ _ (activated-by-leaves (verdictOn (readElement value .answer)) t bearer link (readElement value .filters)) (λ r. refl)
 
 activate-named-leaves : (t : Table) (bearer link : ℕ) (value : List ℕ) → RefusalLeaves t (activateNamed t bearer link value)
 unfolding activateNamed
 activate-named-leaves t bearer link value =
-    pick-leaves
-    (unused t bearer && isDefault (roleOf t link)) t _ _
-    (pick-leaves (headFine value) t _ _ (activate-read-leaves t bearer link value) (λ r. refl)) (λ r. refl)
+    picked (RefusalLeaves t) (unused t bearer && isDefault (roleOf t link)) _ _
+    (picked (RefusalLeaves t) (headFine value) _ _ (activate-read-leaves t bearer link value) (λ r. refl)) (λ r. refl)
 
 -- steps 1 and 2 of both: t before the transaction is closed, s after
 matched : (w m : Bool) (t s : Table) (bearer : ℕ) (o : Outcome) → RefusalLeaves s o
@@ -144,23 +152,22 @@ module _ (t : Table) where
   pub activate-default-refused : (bearer : ℕ) → RefusalLeaves t (activateDefaultOf t bearer)
   unfolding activateDefaultOf
   activate-default-refused bearer =
-      pick-leaves (wellFormed t) t _ _ (pick-leaves (unused t bearer) t _ _ (λ r. absurd (r refl)) (λ r. refl)) (λ r. refl)
+      picked (RefusalLeaves t) (wellFormed t) _ _ (picked (RefusalLeaves t) (unused t bearer) _ _ (λ r. absurd (r refl)) (λ r. refl)) (λ r. refl)
 
   pub deactivate-refused : (bearer x : ℕ) → RefusalLeaves t (deactivateOf t bearer x)
   unfolding deactivateOf
-  deactivate-refused bearer x = pick-leaves (wellFormed t) t _ _ (λ r. absurd (r refl)) (λ r. refl)
+  deactivate-refused bearer x = picked (RefusalLeaves t) (wellFormed t) _ _ (λ r. absurd (r refl)) (λ r. refl)
 
   pub reject-refused : (x cause : ℕ) → RefusalLeaves t (rejectOf t x cause)
   unfolding rejectOf
   reject-refused x cause =
-      pick-leaves (wellFormed t) t _ _ (pick-leaves (isOpen t x) t _ _ (λ r. absurd (r refl)) (λ r. refl)) (λ r. refl)
+      picked (RefusalLeaves t) (wellFormed t) _ _ (picked (RefusalLeaves t) (isOpen t x) _ _ (λ r. absurd (r refl)) (λ r. refl)) (λ r. refl)
 
   pub start-refused : (x bearer : ℕ) → RefusalLeaves t (startOf t x bearer)
   unfolding startOf
   start-refused x bearer =
-      pick-leaves
-      (wellFormed t) t _ _
-      (pick-leaves (eqb x 0 || eqb x 255) t _ _ (λ r. refl)
-      (pick-leaves (isIdle (roleOf t bearer)) t _ _ (λ r. refl)
-      (pick-leaves (eqb (transactionAt t (indexOf bearer)) 0) t _ _
-      (pick-leaves (isOpen t x) t _ _ (λ r. refl) (λ r. absurd (r refl))) (λ r. refl)))) (λ r. refl)
+      picked (RefusalLeaves t) (wellFormed t) _ _
+      (picked (RefusalLeaves t) (eqb x 0 || eqb x 255) _ _ (λ r. refl)
+      (picked (RefusalLeaves t) (isIdle (roleOf t bearer)) _ _ (λ r. refl)
+      (picked (RefusalLeaves t) (eqb (transactionAt t (indexOf bearer)) 0) _ _
+      (picked (RefusalLeaves t) (isOpen t x) _ _ (λ r. refl) (λ r. absurd (r refl))) (λ r. refl)))) (λ r. refl)

@@ -11,14 +11,15 @@ use borrow.Author.Tests.{eqb-true, eq-eqb, eqb-false, ne-eqb, le-leb}
 use Rattle.laws.specs.Says.{pick}
 use Rattle.laws.specs.Index.{anyBelow, tab}
 use Rattle.laws.specs.Lists.{every, All, Each}
-use Rattle.laws.proofs.Index.{tab-length}
+use Rattle.laws.proofs.Lists.{each-tab}
 use Rattle.laws.proofs.Loops.{every-at}
 use Rattle.laws.proofs.Tests.{both, neither}
 use Rattle.laws.proofs.Typed.{each-at}
-use Rattle.laws.proofs.Says.{never}
+use Rattle.laws.proofs.Says.{never, by-test, picked}
 use Rattle.filter.specs.declared.component.Filter.{Filter}
 use Rattle.filter.specs.Ranges.{FilterInRange}
 use Rattle.filter.specs.Fittable.{placeFine}
+use Rattle.filter.proofs.Ranges.{nothing-in-range}
 use Rattle.element.specs.declared.answer.SetOperation.{SetOperation}
 use Rattle.element.specs.declared.answer.SetOperation.the-variants.{Create}
 use Rattle.element.specs.declared.answer.BareOperation.the-variants.{DeleteTft, NoOperation}
@@ -82,19 +83,6 @@ pub record ViewInRange (v : View) : Type 0 where
   pub transaction : (i : ℕ) → i < bearerCount → v .transaction i < 2 ^ 8
   pub filter : (i j : ℕ) → i < bearerCount → j < placeCount → FilterInRange (v .filter i j)
 
-module _ {A : Type 0} (P : A → Type 0) where
-  all-tab : (f : ℕ → A) (n : ℕ) → ((i : ℕ) → i < n → P (f i)) → All P (tab f n)
-  unfolding tab
-  all-tab f zero h = tt
-  all-tab f (suc n) h = (h 0 (omega arith), all-tab (λ i. f (suc i)) n (λ i l. h (suc i) (omega arith)))
-
-  each-tab : (f : ℕ → A) (n : ℕ) → ((i : ℕ) → i < n → P (f i)) → Each P n (tab f n)
-  each-tab f n h = record { count = tab-length f n; all = all-tab f n h }
-
-  picked : (b : Bool) (x y : A) → P x → P y → P (pick b x y)
-  picked true x y p q = p
-  picked false x y p q = q
-
 pub built-in-range : (v : View) → ViewInRange v → TableInRange (build v)
 built-in-range v r =
     record {
@@ -109,10 +97,6 @@ view-in-range t r =
       transaction = λ i l. each-at (r .bearers) noBearer i l .transaction;
       filter = λ i j l m. each-at (each-at (r .bearers) noBearer i l .row) emptyFilter j m;
     }
-
-empty-in-range : FilterInRange emptyFilter
-empty-in-range =
-    record { precedence = omega arith; direction = omega arith; address = tt; protocol = tt; local = tt; remote = tt; index = tt; class = tt; label = tt }
 
 abbrev Small : ℕ → Type 0
 Small x = x < 2 ^ 8
@@ -143,7 +127,7 @@ module _ (t : Table) (r : TableInRange t) where
       record {
         role = λ i l. picked RoleInRange (gone i) Idle (roleAt t i) tt (v .role i l);
         transaction = λ i l. picked Small (gone i) 0 (transactionAt t i) (omega arith) (v .transaction i l);
-        filter = λ i j l m. picked FilterInRange (gone i) emptyFilter (filterAt t i j) empty-in-range (v .filter i j l m);
+        filter = λ i j l m. picked FilterInRange (gone i) emptyFilter (filterAt t i j) nothing-in-range (v .filter i j l m);
       }
 
   deleted-in-range : (k : ℕ) (marks : List Bool) → ViewInRange (deletedView t k marks)
@@ -153,7 +137,7 @@ module _ (t : Table) (r : TableInRange t) where
       record {
         role = v .role;
         transaction = v .transaction;
-        filter = λ i j l m. picked FilterInRange (eqb i k && getD marks j false) emptyFilter (filterAt t i j) empty-in-range (v .filter i j l m);
+        filter = λ i j l m. picked FilterInRange (eqb i k && getD marks j false) emptyFilter (filterAt t i j) nothing-in-range (v .filter i j l m);
       }
 
   laid-in-range : (new : List Filter) (create : Bool) (k connection : ℕ) → Each FilterInRange placeCount new → ViewInRange (laidView new create t k connection)
@@ -165,7 +149,7 @@ module _ (t : Table) (r : TableInRange t) where
         transaction = v .transaction;
         filter = λ i j l m.
             ⊎-elim (λ x. subst FilterInRange (sym (x .is)) (each-at n emptyFilter j m))
-            (⊎-elim (λ x. subst FilterInRange (sym (x .is)) (v .filter i j l m)) (λ z. subst FilterInRange (sym z) empty-in-range))
+            (⊎-elim (λ x. subst FilterInRange (sym (x .is)) (v .filter i j l m)) (λ z. subst FilterInRange (sym z) nothing-in-range))
             (laid-cases new create t k connection i j);
       }
 
@@ -210,10 +194,9 @@ module _ (t : Table) (sound : Sound t) where
           (laid-in-range t (sound .inRange) new create (indexOf bearer) (connectionAt t (indexOf bearer)) n)
 
 -- ---- The calls
--- an outcome picked by a test
-by-test : (b : Bool) (x y : Outcome) → (b ≡ true → Sound (x .table)) → (b ≡ false → Sound (y .table)) → Sound (pick b x y .table)
-by-test true x y p q = p refl
-by-test false x y p q = q refl
+-- the table of an outcome is sound
+abbrev LeavesSound : Outcome → Type 0
+LeavesSound o = Sound (o .table)
 
 -- an unused identity is in range, and its bearer idle
 abbrev Unused : Table → ℕ → Type 0
@@ -247,7 +230,7 @@ module _ (t : Table) (sound : Sound t) (value : List ℕ) (octets : All Octet va
       laid-sound t sound bearer (readElement value .filters) (creates operation) (active-at t bearer h .2) (read-in-range value octets .filters)
       (set-well value octets operation e)
   modified-sound bearer h Identifiers e =
-      by-test (isDedicated (roleOf t bearer) && empties t (indexOf bearer) (readElement value .marks)) _ _ (λ _. sound)
+      by-test LeavesSound (isDedicated (roleOf t bearer) && empties t (indexOf bearer) (readElement value .marks)) _ _ (λ _. sound)
       (λ _. deleted-sound t sound (indexOf bearer) (readElement value .marks))
   modified-sound bearer h (Bare DeleteTft) e = deleted-sound t sound (indexOf bearer) (replicate placeCount true)
   modified-sound bearer h (Bare NoOperation) e = sound
@@ -255,9 +238,9 @@ module _ (t : Table) (sound : Sound t) (value : List ℕ) (octets : All Octet va
   modify-named : (bearer : ℕ) → Sound (modifyNamed t bearer value .table)
   unfolding modifyNamed modifyRead
   modify-named bearer =
-      by-test (isIdle (roleOf t bearer)) _ _ (λ _. sound) (λ h.
-      by-test (headFine value) _ _ (λ _.
-      by-test (isDedicated (roleOf t bearer) && eqb (operationOf value) 2) _ _ (λ _. sound) (λ _. modified-sound bearer h (readElement value .answer) refl)) (λ _. sound))
+      by-test LeavesSound (isIdle (roleOf t bearer)) _ _ (λ _. sound) (λ h.
+      by-test LeavesSound (headFine value) _ _ (λ _.
+      by-test LeavesSound (isDedicated (roleOf t bearer) && eqb (operationOf value) 2) _ _ (λ _. sound) (λ _. modified-sound bearer h (readElement value .answer) refl)) (λ _. sound))
 
   module _ (bearer link : ℕ) (idle : Unused t bearer) (default : ActiveDefault t link) where
     linked-sound : Sound (build (linkedView t bearer link))
@@ -284,10 +267,10 @@ module _ (t : Table) (sound : Sound t) (value : List ℕ) (octets : All Octet va
   activate-named : (bearer link : ℕ) → Sound (activateNamed t bearer link value .table)
   unfolding activateNamed activateRead
   activate-named bearer link =
-      by-test (unused t bearer && isDefault (roleOf t link)) _ _ (λ h.
+      by-test LeavesSound (unused t bearer && isDefault (roleOf t link)) _ _ (λ h.
       let f = both (unused t bearer) (isDefault (roleOf t link)) h in
-      by-test (headFine value) _ _ (λ _.
-      by-test (eqb (operationOf value) create) _ _
+      by-test LeavesSound (headFine value) _ _ (λ _.
+      by-test LeavesSound (eqb (operationOf value) create) _ _
       (λ e. activated-sound bearer link (unused-at t bearer (f .0)) (default-at t link (f .1)) (eqb-true (operationOf value) create e)) (λ _. sound)) (λ _. sound)) (λ _. sound)
 
 -- a transaction that is not open, of an identity that may be
@@ -299,7 +282,7 @@ module _ (t : Table) (sound : Sound t) where
   pub activate-default-sound : (bearer : ℕ) → Sound (activateDefaultOf t bearer .table)
   unfolding activateDefaultOf
   activate-default-sound bearer =
-      by-test (wellFormed t) _ _ (λ _. by-test (unused t bearer) _ _ opened (λ _. sound)) (λ _. sound)
+      by-test LeavesSound (wellFormed t) _ _ (λ _. by-test LeavesSound (unused t bearer) _ _ opened (λ _. sound)) (λ _. sound)
     where
       opened : unused t bearer ≡ true → Sound (build (openedView t (indexOf bearer) Default))
       opened e =
@@ -309,22 +292,22 @@ module _ (t : Table) (sound : Sound t) where
   pub activate-dedicated-sound : (bearer link x : ℕ) (value : List ℕ) → All Octet value → Sound (activateDedicatedOf t bearer link x value .table)
   unfolding activateDedicatedOf
   activate-dedicated-sound bearer link x value octets =
-      by-test (wellFormed t) _ _ (λ _.
-      by-test (mismatch t x) _ _ (λ _. sound) (λ _. activate-named (closed t x) (closed-sound t sound x) value octets bearer link)) (λ _. sound)
+      by-test LeavesSound (wellFormed t) _ _ (λ _.
+      by-test LeavesSound (mismatch t x) _ _ (λ _. sound) (λ _. activate-named (closed t x) (closed-sound t sound x) value octets bearer link)) (λ _. sound)
 
   pub modify-sound : (bearer x : ℕ) (value : List ℕ) → All Octet value → Sound (modifyOf t bearer x value .table)
   unfolding modifyOf
   modify-sound bearer x value octets =
-      by-test (wellFormed t) _ _ (λ _.
-      by-test (mismatch t x) _ _ (λ _. sound) (λ _. modify-named (closed t x) (closed-sound t sound x) value octets bearer)) (λ _. sound)
+      by-test LeavesSound (wellFormed t) _ _ (λ _.
+      by-test LeavesSound (mismatch t x) _ _ (λ _. sound) (λ _. modify-named (closed t x) (closed-sound t sound x) value octets bearer)) (λ _. sound)
 
   pub deactivate-sound : (bearer x : ℕ) → Sound (deactivateOf t bearer x .table)
   unfolding deactivateOf
-  deactivate-sound bearer x = by-test (wellFormed t) _ _ (λ _. dropped-sound (closed t x) (closed-sound t sound x) bearer) (λ _. sound)
+  deactivate-sound bearer x = by-test LeavesSound (wellFormed t) _ _ (λ _. dropped-sound (closed t x) (closed-sound t sound x) bearer) (λ _. sound)
 
   pub reject-sound : (x cause : ℕ) → Sound (rejectOf t x cause .table)
   unfolding rejectOf
-  reject-sound x cause = by-test (wellFormed t) _ _ (λ _. by-test (isOpen t x) _ _ (λ _. rejectedWith) (λ _. sound)) (λ _. sound)
+  reject-sound x cause = by-test LeavesSound (wellFormed t) _ _ (λ _. by-test LeavesSound (isOpen t x) _ _ (λ _. rejectedWith) (λ _. sound)) (λ _. sound)
     where
       rejectedWith : Sound (afterReject (eqb cause 43) t x)
       rejectedWith =
@@ -334,10 +317,10 @@ module _ (t : Table) (sound : Sound t) where
   pub start-sound : (x bearer : ℕ) → x < 2 ^ 8 → Sound (startOf t x bearer .table)
   unfolding startOf
   start-sound x bearer s =
-      by-test (wellFormed t) _ _ (λ _.
-      by-test (eqb x 0 || eqb x 255) _ _ (λ _. sound) (λ e.
-      by-test (isIdle (roleOf t bearer)) _ _ (λ _. sound) (λ h.
-      by-test (eqb (transactionAt t (indexOf bearer)) 0) _ _ (λ _. by-test (isOpen t x) _ _ (λ _. sound) (started e h)) (λ _. sound)))) (λ _. sound)
+      by-test LeavesSound (wellFormed t) _ _ (λ _.
+      by-test LeavesSound (eqb x 0 || eqb x 255) _ _ (λ _. sound) (λ e.
+      by-test LeavesSound (isIdle (roleOf t bearer)) _ _ (λ _. sound) (λ h.
+      by-test LeavesSound (eqb (transactionAt t (indexOf bearer)) 0) _ _ (λ _. by-test LeavesSound (isOpen t x) _ _ (λ _. sound) (started e h)) (λ _. sound)))) (λ _. sound)
     where
       started : eqb x 0 || eqb x 255 ≡ false → isIdle (roleOf t bearer) ≡ false → isOpen t x ≡ false → Sound (build (startedView t (indexOf bearer) x))
       started e h o =

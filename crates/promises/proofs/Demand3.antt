@@ -5,13 +5,14 @@ use mathlib.Core.Path.{_≡_, refl}
 use mathlib.Core.Bool.{true}
 use mathlib.Core.Logic.{_↔_}
 use mathlib.Core.List.{List, [], _∷_}
-use Prim.Native.Nat.{ℕ, zero, suc, _<_}
+use Prim.Native.Nat.{ℕ, _<_}
 use native.Mathlib.Omega.{arith}
-use lib.ListN.{length, replicate}
 use Rattle.laws.specs.Index.{allBelow}
-use Rattle.laws.specs.Lists.{All, Each}
+use Rattle.laws.specs.Lists.{All}
+use Rattle.laws.proofs.Lists.{each-replicate}
 use Rattle.filter.specs.declared.packet.Header.{Header}
 use Rattle.filter.specs.Ranges.{FilterInRange}
+use Rattle.filter.proofs.Ranges.{nothing-in-range}
 use Rattle.filter.specs.Coding.{held, emptyPlace}
 use Rattle.filter.specs.Fit.{validHeader}
 use Rattle.element.specs.Read.{readElement}
@@ -35,24 +36,13 @@ use Rattle.route.proofs.Theorems.{route-right, right-one, route-says}
 use Rattle.promises.specs.Calls.{Call, activateDefault, activateDedicated, modify, deactivate, reject, start, Sent, outcomeOf, run, reached}
 
 -- ---- "After any sequence of calls from the empty table", refused ones among them, the table is well formed
-all-alike : {A : Type 0} (P : A → Type 0) (n : ℕ) (a : A) → P a → All P (replicate n a)
-all-alike P zero a p = tt
-all-alike P (suc n) a p = (p, all-alike P n a p)
-
-each-alike : {A : Type 0} (P : A → Type 0) (n : ℕ) (a : A) → length (replicate n a) ≡ n → P a → Each P n (replicate n a)
-each-alike P n a e p = record { count = e; all = all-alike P n a p }
-
 empty-in-range : TableInRange emptyTable
 unfolding emptyTable
 empty-in-range =
     record {
-      bearers = each-alike BearerInRange bearerCount _ refl
-          (record { role = tt; transaction = omega arith; row = each-alike FilterInRange placeCount emptyFilter refl nothing });
+      bearers = each-replicate BearerInRange bearerCount _
+          (record { role = tt; transaction = omega arith; row = each-replicate FilterInRange placeCount emptyFilter nothing-in-range });
     }
-  where
-    nothing : FilterInRange emptyFilter
-    nothing =
-        record { precedence = omega arith; direction = omega arith; address = tt; protocol = tt; local = tt; remote = tt; index = tt; class = tt; label = tt }
 
 empty-well : wellFormed emptyTable ≡ true
 unfolding emptyTable allBelow held emptyPlace filterFine bearerFine transactionsApart transactionFrom distinctTransactions distinctAt distinctPrecedences wellFormed

@@ -5,12 +5,13 @@ use mathlib.Core.Bool.{Bool, false}
 use mathlib.Core.List.{List}
 use Prim.Native.Nat.{ℕ}
 use borrow.Author.Tests.{not-true, not-false}
+use Rattle.laws.specs.Says.{pick}
 use Rattle.filter.specs.declared.component.Filter.{Filter}
 use Rattle.table.specs.declared.bearer.Table.{Table}
 use Rattle.table.specs.Bearers.{indexOf, build}
-use Rattle.calls.specs.declared.reply.Answer.the-variants.{Accept}
+use Rattle.calls.specs.declared.reply.Answer.the-variants.{Accept, Release, Reattach}
 use Rattle.calls.specs.declared.reply.Outcome.{Outcome}
-use Rattle.calls.specs.Reply.{outcome}
+use Rattle.calls.specs.Reply.{outcome, answered}
 use Rattle.calls.specs.Lay.{released, laidView, followers, layWithin}
 use Rattle.calls.proofs.Conflicts.{released-by, followers-by}
 use borrow.Author.Needs.{needs}
@@ -38,10 +39,12 @@ returns c =
     (sym (released-by (a .new) (a .create) (a .t) (index .result) (a .connection) (lost .result) (lost .ensures) (roles .result) (roles .ensures)) ∙ sym (p .is-released .ensures)
     ∙ not-true (p .is-released .result) (c .before .before .if1 .taken)))
 
-returns-2 : tie.Need-returns-2
+-- the connection goes: `only` is whether it was the only one
+goes : (q : tie.After-only-connection)
+    → let a = q .before .before .before .before .before .before .before .before .args in
+    answered (q .before .without-connection .result) (pick (q .only-connection .result) Reattach (Release (a .connection))) ≡ layWithin (a .t) (a .bearer) (a .connection) (a .new) (a .create)
 unfolding layWithin
-returns-2 c =
-    let q = c .before .before in
+goes q =
     let p = q .before .before .before in
     let lost = p .before .losses in
     let roles = p .before .before .roles-of in
@@ -52,29 +55,9 @@ returns-2 c =
       ← released-by (a .new) (a .create) (a .t) (index .result) (a .connection) (lost .result) (lost .ensures) (roles .result) (roles .ensures),
       ← p .is-released .ensures,
       not-false (p .is-released .result) (q .before .before .if1 .left),
-      ← q .only-connection .ensures,
-      c .before .if2 .taken,
+      q .only-connection .ensures,
+      q .before .without-connection .ensures,
     )
-    (cc)
-
-returns-3 : tie.Need-returns-3
-unfolding layWithin
-returns-3 c =
-    let q = c .before .before in
-    let p = q .before .before .before in
-    let lost = p .before .losses in
-    let roles = p .before .before .roles-of in
-    let index = p .before .before .before .before .index-of in
-    let a = p .before .before .before .before .before .args in
-    rw (
-      ← index .ensures,
-      ← released-by (a .new) (a .create) (a .t) (index .result) (a .connection) (lost .result) (lost .ensures) (roles .result) (roles .ensures),
-      ← p .is-released .ensures,
-      not-false (p .is-released .result) (q .before .before .if1 .left),
-      ← q .only-connection .ensures,
-      c .before .if2 .left,
-    )
-    (cc)
 
 pub lay-within-spec : {M : Type 1} → statement M
 lay-within-spec =
@@ -84,5 +67,5 @@ lay-within-spec =
     (λ c κs. search needs)
     returns
     (λ c κs. search needs) (λ c κs. search needs) (λ c κs. search needs) (λ c κs. search needs)
-    returns-2
-    returns-3)
+    (λ c. c .answer-with .ensures ∙ (rw (c .before .if2 .taken) at (goes (c .before .before))))
+    (λ c. c .answer-with2 .ensures ∙ (rw (c .before .if2 .left) at (goes (c .before .before)))))
