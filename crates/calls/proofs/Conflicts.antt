@@ -22,6 +22,7 @@ use Rattle.table.specs.declared.bearer.Table.{Table}
 use Rattle.filter.specs.Sizes.{placeCount, precedenceCount}
 use Rattle.filter.specs.Build.{emptyFilter}
 use Rattle.table.specs.Bearers.{bearerCount, inRow, roleAt, bearerAt, identityOf, isDefault, isDedicated}
+use Rattle.calls.specs.inner.Walk.{so}
 use Rattle.calls.specs.Steps.{ofConnection}
 use Rattle.calls.specs.Lay.{old, takenBy, takes, conflict, placed, conflictIn, loses, placedIn, losesAt, conflictOnDefault, follows, released, followers}
 
@@ -124,7 +125,7 @@ module _ (new : List Filter) (create named mine : Bool) (n f : Filter) (took hit
   no-conflict true = refl
   no-conflict false = refl
 
-  pub conflict-old : (rem : Bool) → rem ≡ not (named && (create || held n)) → rem && hit ≡ conflict new mine (old create named n f)
+  pub conflict-old : (rem : Bool) → rem ≡ not (named && (create || held n)) → rem && hit ≡ conflict new mine (old create (so named mine) n f)
   unfolding old
   conflict-old rem er = ap (λ (b : Bool). b && hit) er ∙ ap (λ (b : Bool). not (named && (create || held n)) && b) hit-is ∙ go (named && (create || held n))
     where
@@ -132,7 +133,7 @@ module _ (new : List Filter) (create named mine : Bool) (n f : Filter) (took hit
       go true = sym (no-conflict mine)
       go false = refl
 
-  pub placed-by : pick (named && held n) n (pick ((named && create) || hit) emptyFilter f) ≡ placed new create named mine n f
+  pub placed-by : pick (named && held n) n (pick ((named && create) || hit) emptyFilter f) ≡ placed new create (so named mine) n f
   unfolding placed old
   placed-by =
       ap (λ (b : Bool). pick (named && held n) n (pick ((named && create) || b) emptyFilter f)) hit-is ∙ go named (held n) create
@@ -154,30 +155,30 @@ role-at t roles e i l = ap (λ (roles : List Role). getD roles i Idle) e ∙ tab
 
 -- ---- one row
 module _ (new : List Filter) (create : Bool) where
-  loses-none : (named : Bool) (row : List Filter) → loses new create named false row ≡ false
+  loses-none : (named : Bool) (row : List Filter) → loses new create (so named false) row ≡ false
   unfolding loses conflictIn conflict
-  loses-none named row = any-none (conflictIn new create named false row) placeCount (λ j. refl)
+  loses-none named row = any-none (conflictIn new create (so named false) row) placeCount (λ j. refl)
 
   -- a row that is not the named bearer's and loses nothing stays
-  pub row-stands : (mine : Bool) (row : List Filter) → length row ≡ placeCount → loses new create false mine row ≡ false
-      → row ≡ tab (placedIn new create false mine row) placeCount
+  pub row-stands : (mine : Bool) (row : List Filter) → length row ≡ placeCount → loses new create (so false mine) row ≡ false
+      → row ≡ tab (placedIn new create (so false mine) row) placeCount
   unfolding loses conflictIn placedIn placed old
   row-stands mine row long e =
-      tab-is emptyFilter (placedIn new create false mine row) row placeCount long
-      (λ j l. let no : conflict new mine (inRow row j) ≡ false = any-no (conflictIn new create false mine row) placeCount j l e in
+      tab-is emptyFilter (placedIn new create (so false mine) row) row placeCount long
+      (λ j l. let no : conflict new mine (inRow row j) ≡ false = any-no (conflictIn new create (so false mine) row) placeCount j l e in
       ap (λ (b : Bool). pick b emptyFilter (inRow row j)) (sym no))
 
   -- ---- the bearers
   module _ (t : Table) (k connection : ℕ) where
-    pub mine-loses : (i : ℕ) (r : Bool) → ofConnection t connection i ≡ true → r ≡ loses new create (eqb i k) true (bearerAt t i .row)
+    pub mine-loses : (i : ℕ) (r : Bool) → ofConnection t connection i ≡ true → r ≡ loses new create (so (eqb i k) true) (bearerAt t i .row)
         → r ≡ losesAt new create t k connection i
     unfolding losesAt
-    mine-loses i r m e = e ∙ ap (λ (mine : Bool). loses new create (eqb i k) mine (bearerAt t i .row)) (sym m)
+    mine-loses i r m e = e ∙ ap (λ (mine : Bool). loses new create (so (eqb i k) mine) (bearerAt t i .row)) (sym m)
 
     pub other-loses : (i : ℕ) → ofConnection t connection i ≡ false → false ≡ losesAt new create t k connection i
     unfolding losesAt
     other-loses i m =
-        sym (loses-none (eqb i k) (bearerAt t i .row)) ∙ ap (λ (mine : Bool). loses new create (eqb i k) mine (bearerAt t i .row)) (sym m)
+        sym (loses-none (eqb i k) (bearerAt t i .row)) ∙ ap (λ (mine : Bool). loses new create (so (eqb i k) mine) (bearerAt t i .row)) (sym m)
 
     module _ (lost : List Bool) (e : lost ≡ tab (losesAt new create t k connection) bearerCount) where
       pub lost-at : (i : ℕ) → i < bearerCount → getD lost i false ≡ losesAt new create t k connection i

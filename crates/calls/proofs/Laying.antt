@@ -31,6 +31,7 @@ use Rattle.element.specs.declared.answer.Answer.the-variants.{Filters, Identifi
 use Rattle.element.specs.declared.answer.SetOperation.{SetOperation}
 use Rattle.element.specs.declared.answer.BareOperation.the-variants.{DeleteTft, NoOperation}
 use Rattle.element.specs.Read.{readElement}
+use Rattle.calls.specs.inner.Walk.{so}
 use Rattle.calls.specs.declared.reply.Answer.{Answer}
 use Rattle.calls.specs.declared.reply.Answer.the-variants.{Accept, Reject, Release, Reattach, Started, Closed, Refused}
 use Rattle.calls.specs.declared.reply.Cause.the-variants.{TftSyntax, BearerIdentity, Transaction}
@@ -136,7 +137,7 @@ module _ (t : Table) (bearer : ℕ) (new : List Filter) where
     laid-by b h = ap (λ (b : Bool). layOrRelease b t bearer (home t bearer) new create) h
 
     -- THE FOLLOW-UPS
-    pub conflict-at : (i j : ℕ) → Says (conflictIn new create (eqb i (indexOf bearer)) (ofConnection t (home t bearer) i) (bearerAt t i .row) j) (Conflict t bearer new create i j)
+    pub conflict-at : (i j : ℕ) → Says (conflictIn new create (so (eqb i (indexOf bearer)) (ofConnection t (home t bearer) i)) (bearerAt t i .row) j) (Conflict t bearer new create i j)
     unfolding conflictIn old
     conflict-at i j =
         go (eqb i (indexOf bearer) && (create || held (inRow new j))) (says-and (says-eq i (indexOf bearer)) (says-or (says-it create) (says-it (held (inRow new j)))))

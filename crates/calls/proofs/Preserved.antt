@@ -22,6 +22,7 @@ use Rattle.filter.specs.Build.{emptyFilter}
 use Rattle.table.specs.Bearers.{firstIdentity, lastIdentity, bearerCount, lastTransaction, isIdentity, indexOf, identityOf, inRow, roleAt, transactionAt, filterAt, View, view, build, isIdle, isDefault, roleOf, connectionOf, connectionAt}
 use Rattle.table.specs.WellFormed.{Held, Well, WellFormed}
 use Rattle.table.proofs.Meaning.{Fine, idle-says, range-says}
+use Rattle.calls.specs.inner.Walk.{so}
 use Rattle.calls.specs.Steps.{opensAt, closedView, closed, startedView, openedView, cutView, ofConnection, isAt, droppedBy, dropped, deletedIn, deletedView}
 use Rattle.calls.specs.Changes.{Taken, Void}
 use Rattle.calls.specs.Lay.{old, takenBy, takes, conflict, placed, placedIn, laidView, released, layOrRelease, layWithin, layOf}
@@ -286,17 +287,17 @@ module _ (new : List Filter) (create named mine : Bool) (n f : Filter) where
   pub record New : Type 0 where
     pub on : named ≡ true
     pub has : Held n
-    pub is : placed new create named mine n f ≡ n
+    pub is : placed new create (so named mine) n f ≡ n
 
   pub record Old : Type 0 where
-    pub is : placed new create named mine n f ≡ f
+    pub is : placed new create (so named mine) n f ≡ f
     pub clear : conflict new mine f ≡ false
 
-  pub placed-cases : New ⊎ (Old ⊎ (placed new create named mine n f ≡ emptyFilter))
+  pub placed-cases : New ⊎ (Old ⊎ (placed new create (so named mine) n f ≡ emptyFilter))
   unfolding placed old
   placed-cases = go (named && held n) (named && (create || held n)) (conflict new mine f) refl refl refl
     where
-      go : (b c d : Bool) → named && held n ≡ b → named && (create || held n) ≡ c → conflict new mine f ≡ d → New ⊎ (Old ⊎ (placed new create named mine n f ≡ emptyFilter))
+      go : (b c d : Bool) → named && held n ≡ b → named && (create || held n) ≡ c → conflict new mine f ≡ d → New ⊎ (Old ⊎ (placed new create (so named mine) n f ≡ emptyFilter))
       go true c d p q r = let h = both named (held n) p in inl (record { on = h .0; has = h .1; is = rw p })
       go false true d p q r = inr (inr (rw (p, q) (pick-same (conflict new mine emptyFilter) emptyFilter)))
       go false false true p q r = inr (inr (rw (p, q, r)))

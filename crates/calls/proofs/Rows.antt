@@ -28,12 +28,12 @@ row-self row e = tab-is emptyFilter (inRow row) row placeCount e (λ j l. refl)
 abbrev pub bearerWith : Role → ℕ → List Filter → Bearer
 bearerWith role x row = record { role = role; transaction = x; row = row }
 
-pub row-sound : (role : Role) (x : ℕ) (row : List Filter) → length row ≡ placeCount → bearerWith role x row ≡ bearerWith role x (tab (inRow row) placeCount)
-row-sound role x row e = ap (bearerWith role x) (row-self row e)
+pub row-kept : (role : Role) (x : ℕ) (row : List Filter) → length row ≡ placeCount → bearerWith role x row ≡ bearerWith role x (tab (inRow row) placeCount)
+row-kept role x row e = ap (bearerWith role x) (row-self row e)
 
-pub row-sound-at : (t : Table) (i : ℕ) → TableInRange t → i < bearerCount → (role : Role) (x : ℕ)
+pub row-kept-at : (t : Table) (i : ℕ) → TableInRange t → i < bearerCount → (role : Role) (x : ℕ)
     → bearerWith role x (bearerAt t i .row) ≡ bearerWith role x (tab (filterAt t i) placeCount)
-row-sound-at t i ok l role x = row-sound role x (bearerAt t i .row) (each-at (ok .bearers) noBearer i l .row .count)
+row-kept-at t i ok l role x = row-kept role x (bearerAt t i .row) (each-at (ok .bearers) noBearer i l .row .count)
 
 -- ---- a store that is left out, because f tells what stands there
 module _ {A : Type 0} (f : ℕ → A) (xs : List A) (d : A) where

@@ -19,10 +19,17 @@ use Rattle.calls.specs.declared.reply.Outcome.{Outcome}
 use Rattle.calls.specs.Reply.{outcome, answered}
 use Rattle.calls.specs.Steps.{cutView, ofConnection}
 
--- ---- one place: `named` on the named bearer, `mine` on its connection, n the new filter of that place, f the old one
+-- how a bearer stands to the message
+pub record Standing : Type 0 where
+  -- it is the one that is named
+  pub named : Bool
+  -- it is of the named one's connection
+  pub connected : Bool
+
+-- ---- one place of a bearer that stands so: n is the new filter of that place, f the old one
 -- "create puts the new set in place of the old"; "Add and replace lay the new filters over the old by identifier": the old filter that remains
-unfoldable pub old : Bool → Bool → Filter → Filter → Filter
-old create named n f = pick (named && (create || held n)) emptyFilter f
+unfoldable pub old : Bool → Standing → Filter → Filter → Filter
+old create s n f = pick (s .named && (create || held n)) emptyFilter f
 
 -- a new filter has precedence p
 unfoldable pub takenBy : List Filter → ℕ → ℕ → Bool
@@ -32,27 +39,30 @@ unfoldable pub takes : List Filter → ℕ → Bool
 takes new p = anyBelow (takenBy new p) placeCount
 
 unfoldable pub conflict : List Filter → Bool → Filter → Bool
-conflict new mine f = mine && held f && takes new (f .precedence)
+conflict new connected f = connected && held f && takes new (f .precedence)
 
 module _ (new : List Filter) (create : Bool) where
   -- the new filter; else nothing at a conflict; else the old one
-  unfoldable pub placed : Bool → Bool → Filter → Filter → Filter
-  placed named mine n f = pick (named && held n) n (pick (conflict new mine (old create named n f)) emptyFilter (old create named n f))
+  unfoldable pub placed : Standing → Filter → Filter → Filter
+  placed s n f = pick (s .named && held n) n (pick (conflict new (s .connected) (old create s n f)) emptyFilter (old create s n f))
 
   -- ---- one row
-  unfoldable pub conflictIn : Bool → Bool → List Filter → ℕ → Bool
-  conflictIn named mine row j = conflict new mine (old create named (inRow new j) (inRow row j))
+  unfoldable pub conflictIn : Standing → List Filter → ℕ → Bool
+  conflictIn s row j = conflict new (s .connected) (old create s (inRow new j) (inRow row j))
 
-  unfoldable pub loses : Bool → Bool → List Filter → Bool
-  loses named mine row = anyBelow (conflictIn named mine row) placeCount
+  unfoldable pub loses : Standing → List Filter → Bool
+  loses s row = anyBelow (conflictIn s row) placeCount
 
-  unfoldable pub placedIn : Bool → Bool → List Filter → ℕ → Filter
-  placedIn named mine row j = placed named mine (inRow new j) (inRow row j)
+  unfoldable pub placedIn : Standing → List Filter → ℕ → Filter
+  placedIn s row j = placed s (inRow new j) (inRow row j)
 
   -- ---- the table: the bearer at k is named, and is of the connection
   module _ (t : Table) (k connection : ℕ) where
+    abbrev pub standing : ℕ → Standing
+    standing i = record { named = eqb i k; connected = ofConnection t connection i }
+
     unfoldable pub losesAt : ℕ → Bool
-    losesAt i = loses (eqb i k) (ofConnection t connection i) (bearerAt t i .row)
+    losesAt i = loses (standing i) (bearerAt t i .row)
 
     unfoldable pub conflictOnDefault : ℕ → Bool
     conflictOnDefault i = isDefault (roleAt t i) && losesAt i
@@ -61,7 +71,7 @@ module _ (new : List Filter) (create : Bool) where
     follows i = isDedicated (roleAt t i) && losesAt i
 
     abbrev pub laidView : View
-    laidView = record { role = roleAt t; transaction = transactionAt t; filter = λ i. placedIn (eqb i k) (ofConnection t connection i) (bearerAt t i .row) }
+    laidView = record { role = roleAt t; transaction = transactionAt t; filter = λ i. placedIn (standing i) (bearerAt t i .row) }
 
     -- "Any conflict on the default"
     unfoldable pub released : Bool

@@ -10,7 +10,7 @@ ghost use Rattle.table.specs.declared.bearer.Role.the-variants.{Idle};
 ghost use Rattle.filter.specs.Build.{emptyFilter};
 ghost use Rattle.table.specs.Bearers.{roleAt, identityOf, isDefault, isDedicated, build, bearerCount};
 ghost use Rattle.calls.specs.Reply.{followOf};
-ghost use Rattle.calls.specs.inner.Walk.{noted};
+ghost use Rattle.calls.specs.inner.Walk.{noted, so};
 ghost use Rattle.calls.specs.Lay.{takes, loses, placedIn, losesAt, laidView, onlyConnection, layWithin, layOf};
 ghost use Rattle.filter.specs.Sizes.{placeCount, precedenceCount};
 use crate::reply::Answer;
@@ -86,7 +86,7 @@ fn row_loses(
     row: [Filter; PLACES],
 ) -> bool
     requires { ⌜ taken ≡ tab (takes new) precedenceCount ⌝ }
-    ensures { λ r. ⌜ r ≡ loses new create named true row ⌝ }
+    ensures { λ r. ⌜ r ≡ loses new create (so named true) row ⌝ }
 {
     let mut any = false;
     for j in 0..PLACES {
@@ -108,7 +108,7 @@ fn row_after(
     row: [Filter; PLACES],
 ) -> [Filter; PLACES]
     requires { ⌜ taken ≡ tab (takes new) precedenceCount ⌝ }
-    ensures { λ r. ⌜ r ≡ tab (placedIn new create named mine row) placeCount ⌝ }
+    ensures { λ r. ⌜ r ≡ tab (placedIn new create (so named mine) row) placeCount ⌝ }
 {
     let mut s = row;
     for j in 0..PLACES {
@@ -178,7 +178,7 @@ fn laid_bearer(
     b: Bearer,
 ) -> Bearer
     requires { ⌜ taken ≡ tab (takes new) precedenceCount ⌝ }
-    ensures { λ r. ⌜ r ≡ record { role = b .role; transaction = b .transaction; row = tab (placedIn new create named mine (b .row)) placeCount } ⌝ }
+    ensures { λ r. ⌜ r ≡ record { role = b .role; transaction = b .transaction; row = tab (placedIn new create (so named mine) (b .row)) placeCount } ⌝ }
 {
     let role = b.role;
     let row = b.row;

@@ -10,11 +10,16 @@ use Rattle.table.specs.declared.bearer.Role.the-variants.{Idle}
 use Rattle.table.specs.declared.bearer.Bearer.{Bearer}
 use Rattle.table.specs.Bearers.{inRow}
 use Rattle.calls.specs.declared.reply.FollowUps.{FollowUps}
+use Rattle.calls.specs.Lay.{Standing}
 
 -- what stands where a bearer may be gone
 abbrev pub cutBearer : Bool → Bearer → Bearer
 cutBearer gone b =
     record { role = pick gone Idle (b .role); transaction = pick gone 0 (b .transaction); row = tab (λ j. pick gone emptyFilter (inRow (b .row) j)) placeCount }
+
+-- a bearer that stands so, as the inner functions take it: whether it is the named one, whether it is of the connection
+abbrev pub so : Bool → Bool → Standing
+so named connected = record { named = named; connected = connected }
 
 -- one more in the list
 abbrev pub noted : FollowUps → Bool → ℕ → FollowUps

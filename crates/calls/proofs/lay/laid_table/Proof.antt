@@ -17,6 +17,7 @@ use Rattle.table.specs.Bearers.{noBearer, bearerAt, bearerOf, roleAt, transacti
 use Rattle.table.specs.Ranges.{TableInRange}
 use Rattle.table.proofs.Typed.{table-in-range}
 use Rattle.filter.specs.Sizes.{placeCount}
+use Rattle.calls.specs.inner.Walk.{so}
 use Rattle.calls.specs.Steps.{ofConnection}
 use Rattle.calls.specs.Lay.{losesAt, loses, placedIn, laidView}
 use Rattle.calls.proofs.Rows.{bearerWith, Stored, store-start, store-more, store-skip, store-done}
@@ -28,7 +29,7 @@ use Rattle.calls.proofs.lay.laid_table.Tie as tie
 module _ (new : List Filter) (create : Bool) (t : Table) (k connection i : ℕ) where
   -- what is laid there, `mine` being whether the bearer is of the connection
   abbrev laidAt : Bool → Bearer
-  laidAt mine = bearerWith (roleAt t i) (transactionAt t i) (tab (placedIn new create (eqb i k) mine (bearerAt t i .row)) placeCount)
+  laidAt mine = bearerWith (roleAt t i) (transactionAt t i) (tab (placedIn new create (so (eqb i k) mine) (bearerAt t i .row)) placeCount)
 
   changes : (b : Bearer) (mine : Bool) → mine ≡ ofConnection t connection i → b ≡ laidAt mine → b ≡ bearerOf (laidView new create t k connection) i
   changes b mine m e = e ∙ ap laidAt m
@@ -38,12 +39,12 @@ module _ (new : List Filter) (create : Bool) (t : Table) (k connection i : ℕ) 
   unfolding losesAt
   stays lost e ok l h =
       let no = neither (eqb i k) (getD lost i false) h in
-      let kept : loses new create false (ofConnection t connection i) (bearerAt t i .row) ≡ false =
-      ap (λ (named : Bool). loses new create named (ofConnection t connection i) (bearerAt t i .row)) (sym (no .0))
+      let kept : loses new create (so false (ofConnection t connection i)) (bearerAt t i .row) ≡ false =
+      ap (λ (named : Bool). loses new create (so named (ofConnection t connection i)) (bearerAt t i .row)) (sym (no .0))
       ∙ sym (lost-at new create t k connection lost e i l) ∙ no .1 in
       ap (bearerWith (roleAt t i) (transactionAt t i))
       (row-stands new create (ofConnection t connection i) (bearerAt t i .row) (each-at (ok .bearers) noBearer i l .row .count) kept
-      ∙ ap (λ (named : Bool). tab (placedIn new create named (ofConnection t connection i) (bearerAt t i .row)) placeCount) (sym (no .0)))
+      ∙ ap (λ (named : Bool). tab (placedIn new create (so named (ofConnection t connection i)) (bearerAt t i .row)) placeCount) (sym (no .0)))
 
 abbrev Inv-loop : tie.InvT-loop
 Inv-loop new taken create k connection t lost s₀ i₀ s i = Stored (laidView new create t k connection) t s i

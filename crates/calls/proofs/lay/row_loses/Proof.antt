@@ -10,6 +10,7 @@ use Rattle.laws.proofs.Typed.{each-at}
 use Rattle.filter.specs.Build.{emptyFilter}
 use Rattle.table.specs.Bearers.{inRow}
 use Rattle.filter.specs.Sizes.{placeCount}
+use Rattle.calls.specs.inner.Walk.{so}
 use Rattle.calls.specs.Lay.{conflictIn, loses}
 use Rattle.calls.proofs.Conflicts.{took-is, conflict-old}
 use Rattle.calls.proofs.Typed.{row-in-range}
@@ -18,7 +19,7 @@ use Rattle.calls.proofs.lay.row_loses.Statement.{statement}
 use Rattle.calls.proofs.lay.row_loses.Tie as tie
 
 abbrev Inv-loop : tie.InvT-loop
-Inv-loop create named new taken row any₀ j₀ any j = (j ≤ placeCount) × (any ≡ anyBelow (conflictIn new create named true row) j)
+Inv-loop create named new taken row any₀ j₀ any j = (j ≤ placeCount) × (any ≡ anyBelow (conflictIn new create (so named true) row) j)
 
 abbrev μ-loop : tie.MeasureT-loop
 μ-loop create named new taken row any₀ j₀ any j = placeCount - j
@@ -26,7 +27,7 @@ abbrev μ-loop : tie.MeasureT-loop
 loop-holds : tie.Need-loop-holds Inv-loop μ-loop
 loop-holds c =
     let a = c .args in
-    (omega arith, any-start (conflictIn (a .t1) (a .create) (a .named) true (a .t5)))
+    (omega arith, any-start (conflictIn (a .t1) (a .create) (so (a .named) true) (a .t5)))
 
 array-read-took : tie.Need-array-read-took Inv-loop μ-loop
 array-read-took c =
@@ -45,14 +46,14 @@ loop-again c =
     let turn =
     conflict-old (a .t1) (a .create) (a .named) true n f _ (c .in-conflict .result) (took-is (a .t1) (a .t2) (f .precedence) fits (start .pre)) (c .in-conflict .ensures)
     (c .before .remains .result) (c .before .remains .ensures) in
-    (omega arith, any-more (conflictIn (a .t1) (a .create) (a .named) true (a .t5)) (l .j) (l .any) _ (ap (λ (b : Bool). l .any || b) turn) (l .inv .1))
+    (omega arith, any-more (conflictIn (a .t1) (a .create) (so (a .named) true) (a .t5)) (l .j) (l .any) _ (ap (λ (b : Bool). l .any || b) turn) (l .inv .1))
 
 returns : tie.Need-returns Inv-loop μ-loop
 unfolding loses
 returns c =
     let a = c .before .before .args in
     let l = c .before .loop in
-    done (anyBelow (conflictIn (a .t1) (a .create) (a .named) true (a .t5))) (l .j) placeCount _ (omega arith) (omega arith) (l .inv .1)
+    done (anyBelow (conflictIn (a .t1) (a .create) (so (a .named) true) (a .t5))) (l .j) placeCount _ (omega arith) (omega arith) (l .inv .1)
 
 pub row-loses-spec : {M : Type 1} → statement M
 row-loses-spec =

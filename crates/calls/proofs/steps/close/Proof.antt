@@ -11,7 +11,7 @@ use Rattle.table.specs.Bearers.{bearerAt, bearerOf, roleAt, transactionAt, bear
 use Rattle.table.specs.Ranges.{TableInRange}
 use Rattle.table.proofs.Typed.{table-in-range}
 use Rattle.calls.specs.Steps.{opensAt, closedView, closed}
-use Rattle.calls.proofs.Rows.{bearerWith, row-sound-at, Stored, store-start, store-more, store-skip, store-done}
+use Rattle.calls.proofs.Rows.{bearerWith, row-kept-at, Stored, store-start, store-more, store-skip, store-done}
 use borrow.Author.Needs.{needs}
 use Rattle.calls.proofs.steps.close.Statement.{statement}
 use Rattle.calls.proofs.steps.close.Tie as tie
@@ -19,11 +19,11 @@ use Rattle.calls.proofs.steps.close.Tie as tie
 module _ (t : Table) (x i : ℕ) (ok : TableInRange t) (l : i < bearerCount) where
   closes : eqb (transactionAt t i) x ≡ true → bearerWith (roleAt t i) 0 (bearerAt t i .row) ≡ bearerOf (closedView t x) i
   unfolding opensAt
-  closes e = rw e (row-sound-at t i ok l _ _)
+  closes e = rw e (row-kept-at t i ok l _ _)
 
   stays : eqb (transactionAt t i) x ≡ false → bearerAt t i ≡ bearerOf (closedView t x) i
   unfolding opensAt
-  stays e = rw e (row-sound-at t i ok l _ _)
+  stays e = rw e (row-kept-at t i ok l _ _)
 
 abbrev Inv-loop : tie.InvT-loop
 Inv-loop x t s₀ i₀ s i = Stored (closedView t x) t s i

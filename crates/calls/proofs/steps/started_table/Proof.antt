@@ -14,17 +14,17 @@ use Rattle.table.specs.Bearers.{bearerAt, bearerOf, roleAt, transactionAt, bear
 use Rattle.table.specs.Ranges.{TableInRange}
 use Rattle.table.proofs.Typed.{table-in-range}
 use Rattle.calls.specs.Steps.{startedView}
-use Rattle.calls.proofs.Rows.{bearerWith, row-sound-at, Beside, store-one, store-past}
+use Rattle.calls.proofs.Rows.{bearerWith, row-kept-at, Beside, store-one, store-past}
 use borrow.Author.Needs.{needs}
 use Rattle.calls.proofs.steps.started_table.Statement.{statement}
 use Rattle.calls.proofs.steps.started_table.Tie as tie
 
 module _ (t : Table) (k x : ℕ) (ok : TableInRange t) where
   here : k < bearerCount → bearerWith (roleAt t k) x (bearerAt t k .row) ≡ bearerOf (startedView t k x) k
-  here l = rw (says-eq k k .from refl) (row-sound-at t k ok l _ _)
+  here l = rw (says-eq k k .from refl) (row-kept-at t k ok l _ _)
 
   beside : Beside (startedView t k x) t k
-  beside i m n = rw (says-no (says-eq i k) n) (row-sound-at t i ok m _ _)
+  beside i m n = rw (says-no (says-eq i k) n) (row-kept-at t i ok m _ _)
 
 returns : tie.Need-returns
 returns c =

@@ -15,7 +15,7 @@ use Rattle.table.specs.Ranges.{TableInRange}
 use Rattle.table.proofs.Typed.{table-in-range}
 use Rattle.calls.specs.inner.Walk.{cutBearer}
 use Rattle.calls.specs.Steps.{cutView, isAt}
-use Rattle.calls.proofs.Rows.{row-sound-at, Beside, store-one, store-past}
+use Rattle.calls.proofs.Rows.{row-kept-at, Beside, store-one, store-past}
 use borrow.Author.Needs.{needs}
 use Rattle.calls.proofs.steps.without_bearer.Statement.{statement}
 use Rattle.calls.proofs.steps.without_bearer.Tie as tie
@@ -27,7 +27,7 @@ module _ (t : Table) (k : ℕ) where
 
   beside : TableInRange t → Beside (cutView t (isAt k)) t k
   unfolding isAt
-  beside ok i m n = row-sound-at t i ok m _ _ ∙ ap (λ (gone : Bool). cutBearer gone (bearerAt t i)) (sym (says-no (says-eq i k) n))
+  beside ok i m n = row-kept-at t i ok m _ _ ∙ ap (λ (gone : Bool). cutBearer gone (bearerAt t i)) (sym (says-no (says-eq i k) n))
 
 returns : tie.Need-returns
 returns c =
