@@ -24,7 +24,7 @@ use Rattle.route.specs.declared.answer.Refusal.the-variants.{NotWellForm
 use Rattle.route.specs.declared.answer.Answer.the-variants.{Routed, Refused}
 use Rattle.route.specs.declared.list.Entry.{Entry}
 use Rattle.route.specs.Lists.{isUplink, entryOf, nothing, entriesOf, listOf}
-use Rattle.route.specs.Routes.{named, entryFits, firstFit, uplinkAt, hasUplink, otherwiseOf, routeOn, routeOf}
+use Rattle.route.specs.Routes.{filterOf, entryFits, firstFit, uplinkAt, hasUplink, otherwiseOf, routeOn, routeOf}
 use Rattle.route.specs.Rule.{precedenceAt, Fitting, NoneFits, Right, byFilter, byDefault, discarded, Stands}
 use Rattle.route.proofs.Listing.{entries-length, list-stands, same-place, position, list-at}
 
@@ -61,7 +61,7 @@ module _ (t : Table) (h : Header) (otherwise : Route) where
 -- ---- what an entry names
 module _ (t : Table) (h : Header) where
   entry-fits : (i j : ℕ) → entryFits t h (entryOf (identityOf i) j) ≡ fits (filterAt t i j) h
-  unfolding entryFits named
+  unfolding entryFits filterOf
   entry-fits i j =
       let back : indexOf (identityOf i) ≡ i = omega arith in
       rw (says-no (says-eq (identityOf i) 0) (λ e. omega arith), back)

@@ -33,11 +33,11 @@ numberOf (Routed route) = 0
 numberOf (Refused refusal) = refusalNumber refusal
 
 -- the filter that an entry names, and whether it names one that fits
-unfoldable pub named : Table → Entry → Filter
-named t e = filterAt t (indexOf (e .bearer)) (e .place)
+unfoldable pub filterOf : Table → Entry → Filter
+filterOf t e = filterAt t (indexOf (e .bearer)) (e .place)
 
 unfoldable pub entryFits : Table → Header → Entry → Bool
-entryFits t h e = pick (eqb (e .bearer) 0) false (fits (named t e) h)
+entryFits t h e = pick (eqb (e .bearer) 0) false (fits (filterOf t e) h)
 
 -- "positions 0 to 255 are tried upward and left at the first that fits"
 unfoldable pub firstFit : Table → Header → Route → List Entry → Route

@@ -1,7 +1,7 @@
 // The choice of a bearer for an uplink packet.
 ghost use mathlib.Core.Path.{_≡_};
 ghost use Prim.Native.Nat.{_<_};
-ghost use Rattle.route.specs.Routes.{named, entryFits, firstFit, uplinkAt, hasUplink, otherwiseOf, routeOn, routeOf};
+ghost use Rattle.route.specs.Routes.{filterOf, entryFits, firstFit, uplinkAt, hasUplink, otherwiseOf, routeOn, routeOf};
 use crate::answer::Answer;
 use crate::answer::Refusal;
 use crate::answer::Route;
@@ -24,8 +24,8 @@ use table::bearer::role_of;
 use table::well_formed::well_formed;
 
 // The empty filter where there is no such place.
-fn named_filter(t: Table, entry: Entry) -> Filter
-    ensures { λ r. ⌜ r ≡ named t entry ⌝ }
+fn filter_of(t: Table, entry: Entry) -> Filter
+    ensures { λ r. ⌜ r ≡ filterOf t entry ⌝ }
 {
     let i = index_of(entry.bearer);
     let j = entry.place as usize;
@@ -48,7 +48,7 @@ fn entry_fits(t: Table, entry: Entry, header: Header) -> bool
     if entry.bearer == 0 {
         false
     } else {
-        fits(named_filter(t, entry), header)
+        fits(filter_of(t, entry), header)
     }
 }
 

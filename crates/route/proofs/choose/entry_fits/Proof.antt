@@ -12,7 +12,7 @@ returns c = rw (eq-eqb _ _ (c .if1 .taken))
 
 returns-2 : tie.Need-returns-2
 unfolding entryFits
-returns-2 c = rw (ne-eqb _ _ (c .before .before .if1 .left), ← c .before .named-filter .ensures) (c .fits2 .ensures)
+returns-2 c = rw (ne-eqb _ _ (c .before .before .if1 .left), ← c .before .filter-of .ensures) (c .fits2 .ensures)
 
 pub entry-fits-spec : {M : Type 1} → statement M
 entry-fits-spec = tie.close (tie.spec (λ c κs. search needs) (λ c κs. search needs) returns returns-2)

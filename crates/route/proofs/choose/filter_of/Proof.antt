@@ -1,4 +1,4 @@
--- `route::choose::named_filter` meets its contract: past the end of the bearers or of a row there is the empty filter.
+-- `route::choose::filter_of` meets its contract: past the end of the bearers or of a row there is the empty filter.
 -- Assumes nothing.
 use mathlib.Core.Path.{sym, _∙_, ap}
 use Prim.Native.Nat.{ℕ}
@@ -9,20 +9,20 @@ use Rattle.table.specs.declared.bearer.Bearer.{Bearer}
 use Rattle.filter.specs.Build.{emptyFilter}
 use Rattle.table.specs.Bearers.{noBearer, bearerAt, inRow, filterAt}
 use Rattle.table.proofs.Typed.{table-in-range}
-use Rattle.route.specs.Routes.{named}
+use Rattle.route.specs.Routes.{filterOf}
 use borrow.Author.Needs.{needs}
-use Rattle.route.proofs.choose.named_filter.Statement.{statement}
-use Rattle.route.proofs.choose.named_filter.Tie as tie
+use Rattle.route.proofs.choose.filter_of.Statement.{statement}
+use Rattle.route.proofs.choose.filter_of.Tie as tie
 
 returns : tie.Need-returns
-unfolding named
+unfolding filterOf
 returns c =
     let asked = c .before .before .before .before .before in
     let a = asked .before .args in
     ap (λ (i : ℕ). filterAt (a .t1) i (a .entry .place)) (asked .index-of .ensures)
 
 returns-2 : tie.Need-returns-2
-unfolding named
+unfolding filterOf
 returns-2 c =
     let asked = c .before .before .before .before .before in
     let a = asked .before .args in
@@ -32,7 +32,7 @@ returns-2 c =
     ∙ ap (λ (i : ℕ). filterAt (a .t1) i (a .entry .place)) (asked .index-of .ensures)
 
 returns-3 : tie.Need-returns-3
-unfolding named
+unfolding filterOf
 returns-3 c =
     let asked = c .before .before .before in
     let a = asked .before .args in
@@ -41,8 +41,8 @@ returns-3 c =
     ∙ ap (λ (b : Bearer). inRow (b .row) (a .entry .place)) (sym (List·getD-eq-default (a .t1 .bearers) noBearer {n = asked .index-of .result} (omega arith)))
     ∙ ap (λ (i : ℕ). filterAt (a .t1) i (a .entry .place)) (asked .index-of .ensures)
 
-pub named-filter-spec : {M : Type 1} → statement M
-named-filter-spec =
+pub filter-of-spec : {M : Type 1} → statement M
+filter-of-spec =
     tie.close
     (tie.spec
     (λ c κs. search needs) (λ c. search needs) (λ c. search needs) (λ c. search needs) (λ c. search needs) (λ c. search needs)
