@@ -8,11 +8,12 @@ use native.Mathlib.Nat.{not-suc-le-zero, le-of-suc-le-suc}
 use native.Mathlib.Numerals.{add-one}
 use native.Mathlib.Omega.{arith}
 use mathlib.Core.List.{List, [], _∷_, _++_, append-nil}
+use lib.Dec.{eqb}
 use lib.ListN.{length, getD, set, length-set, length-append, List·getD-append}
 use lib.Seq.{getD-set-same, getD-set-other, ext-getD, getD-append-seam}
 use Rattle.laws.specs.Says.{pick}
 use Rattle.laws.specs.Index.{allBelow, anyBelow, SomeBelow, picks, walk, tab, pad}
-use Rattle.laws.proofs.Says.{last, which, never}
+use Rattle.laws.proofs.Says.{last, never, says-eq, says-ne}
 
 -- ---- loops: g i is the state before turn i
 pub next : {A : Type 0} (g : ℕ → A) (i : ℕ) (r : A) → r ≡ g (suc i) → r ≡ g (i + 1)
@@ -74,6 +75,14 @@ tab-at f (suc n) (suc i) d l = tab-at (λ i. f (suc i)) n i d (le-of-suc-le-suc 
 pub tab-is : {A : Type 0} (d : A) (f : ℕ → A) (xs : List A) (n : ℕ) → length xs ≡ n → ((i : ℕ) → i < n → getD xs i d ≡ f i) → xs ≡ tab f n
 tab-is d f xs n e h =
     ext-getD d xs (tab f n) (e ∙ sym (tab-length f n)) (λ i l. let m : i < n = omega arith in h i m ∙ sym (tab-at f n i d m))
+
+-- what stands at i after a store at k
+pub set-seen : {A : Type 0} (xs : List A) (k i : ℕ) (v d : A) → (k ≡ i → i < length xs) → getD (set xs k v) i d ≡ pick (eqb k i) v (getD xs i d)
+set-seen {A} xs k i v d l = go (eqb k i) refl
+  where
+    go : (b : Bool) → eqb k i ≡ b → getD (set xs k v) i d ≡ pick b v (getD xs i d)
+    go true e = let same = says-eq k i .to e in rw same (getD-set-same xs i v d (l same))
+    go false e = getD-set-other xs k i v d (λ q. says-ne (says-eq k i) e (sym q))
 
 -- ---- stores, one at each index
 module _ {A : Type 0} (f : ℕ → A) (xs : List A) where

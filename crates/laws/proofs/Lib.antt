@@ -1,5 +1,6 @@
 pub mod Index
 pub mod Joined
+pub mod Lasts
 pub mod Lists
 pub mod Loops
 pub mod Marks

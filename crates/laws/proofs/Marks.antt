@@ -1,14 +1,14 @@
 -- Repeats by marks: a walk that marks each number as it comes finds a number marked already exactly where one is there twice.
-use mathlib.Core.Path.{_≡_, refl, sym, ap, ap₂, _∙_}
+use mathlib.Core.Path.{_≡_, refl, ap, ap₂, _∙_}
 use mathlib.Core.Bool.{Bool, true, false, _||_}
 use mathlib.Core.List.{List, [], _∷_}
 use Prim.Native.Nat.{ℕ, _<_}
 use native.Mathlib.Omega.{arith}
 use lib.Dec.{eqb}
 use lib.ListN.{length, getD, set, length-set, replicate, length-replicate, getD-replicate}
-use lib.Seq.{getD-set-same, getD-set-other}
-use borrow.Author.Tests.{eqb-true, eqb-false}
+use Rattle.laws.specs.Says.{pick}
 use Rattle.laws.specs.Lists.{All, isIn, repeats}
+use Rattle.laws.proofs.Index.{set-seen}
 
 -- whether one was marked when it came; b: before these
 unfoldable pub again : List ℕ → List Bool → Bool → Bool
@@ -17,11 +17,11 @@ again (x ∷ xs) marks b = again xs (set marks x true) (b || getD marks x false)
 
 -- a number is marked after x was
 marks-set : (marks : List Bool) (x y : ℕ) → x < length marks → getD (set marks x true) y false ≡ eqb x y || getD marks y false
-marks-set marks x y l = go (eqb x y) refl
+marks-set marks x y l = set-seen marks x y true false (λ e. rw (← e) l) ∙ go (eqb x y) (getD marks y false)
   where
-    go : (b : Bool) → eqb x y ≡ b → getD (set marks x true) y false ≡ b || getD marks y false
-    go true e = rw (← eqb-true x y e) (getD-set-same marks x true false l)
-    go false e = getD-set-other marks x y true false (λ q. eqb-false x y e (sym q))
+    go : (b m : Bool) → pick b true m ≡ b || m
+    go true m = refl
+    go false m = refl
 
 -- some number is marked
 abbrev anyMarked : List ℕ → List Bool → Bool

@@ -20,6 +20,11 @@ module _ (p : ℕ → Bool) where
   anyBelow zero = false
   anyBelow (suc n) = anyBelow n || p n
 
+  -- what f gives at the highest index below n with p; d where there is none
+  unfoldable pub lastBelow : {A : Type 0} → (ℕ → A) → A → ℕ → A
+  lastBelow f d zero = d
+  lastBelow f d (suc n) = pick (p n) (f n) (lastBelow f d n)
+
   -- what g calls the indices below n with p, in their order
   unfoldable pub picks : (ℕ → ℕ) → ℕ → List ℕ
   picks g zero = []
