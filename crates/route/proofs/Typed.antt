@@ -1,7 +1,6 @@
 -- What the declared types tell: an ordered list has 256 entries.
 use mathlib.Core.Path.{_≡_}
 use lib.ListN.{length}
-use Rattle.laws.specs.Lists.{Each}
 use Rattle.laws.proofs.Typed.{Tells, array-tells}
 use Rattle.route.specs.declared.list.Entry.{Entry}
 use Rattle.filter.specs.Sizes.{precedenceCount}
