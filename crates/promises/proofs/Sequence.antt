@@ -7,7 +7,7 @@ use Prim.Native.Nat.{ℕ}
 use lib.Dec.{eqb}
 use lib.ListN.{length, getD, take}
 use Rattle.laws.specs.Says.{pick}
-use Rattle.laws.specs.Index.{allBelow, anyBelow, picks, tab, pad, walk}
+use Rattle.laws.specs.Index.{allBelow, anyBelow, lastBelow, picks, tab, pad}
 use Rattle.laws.specs.Lists.{every, isIn, repeats}
 use Rattle.laws.specs.Numbers.{sameUnder}
 use Rattle.laws.specs.Octets.{beFrom}
@@ -31,7 +31,7 @@ use Rattle.calls.specs.Others.{activateDefaultOf, activateRead, activateNamed, 
 use Rattle.route.specs.declared.answer.Route.the-variants.{Bearer, Discard}
 use Rattle.route.specs.declared.answer.Answer.{Answer}
 use Rattle.route.specs.declared.answer.Answer.the-variants.{Routed, Refused}
-use Rattle.route.specs.Lists.{emptyList, putFilter, putRow, putBearer, entriesOf}
+use Rattle.route.specs.Lists.{placeHas, bearerHas, entryIn, entryAt, entriesOf}
 use Rattle.route.specs.Routes.{filterOf, entryFits, firstFit, uplinkAt, hasUplink, otherwiseOf, routeOn, routeOf}
 use Rattle.promises.specs.Calls.{Call, activateDefault, activateDedicated, run, reached}
 
@@ -59,5 +59,5 @@ pub sequence : (
     told (roleAt (reached calls) 0) ∷ told (roleAt (reached calls) 1) ∷ told (roleAt (reached calls) 2)
     ∷ way (routeOf (reached calls) 5 (udpTo 5060)) ∷ way (routeOf (reached calls) 5 (udpTo 5061)) ∷ [])
     ≡ (1 ∷ 5 ∷ 0 ∷ 6 ∷ 5 ∷ [])
-unfolding run emptyTable allBelow anyBelow picks tab pad walk every isIn repeats sameUnder beFrom excluded added built held wellCoded emptyPlace validHeader agreesTransport agreesNetwork fits sample fittable lengthOf componentOf contentsFrom contentsOf splitOf parameters restFits framedBy framedOf noFilters noMarks codedOf elementEntries twice laidRow marked readValue readElement filterFine bearerFine transactionsApart transactionFrom distinctTransactions joined rowPrecedences connectionPrecedences distinctAt distinctPrecedences wellFormed opensAt isOpen closed ofConnection deletedIn holdsIn staysIn empties old takenBy takes conflict placed conflictIn loses placedIn losesAt frees follows released followers otherAt onlyConnection laidOn laid headFine deleteFilters deletedTft modifyRead modifyNamed modifyOf activateDefaultOf activateRead activateNamed activateDedicatedOf uplink emptyList putFilter putRow putBearer entriesOf filterOf entryFits firstFit uplinkAt hasUplink otherwiseOf routeOn routeOf
+unfolding run emptyTable allBelow anyBelow lastBelow picks tab pad every isIn repeats sameUnder beFrom excluded added built held wellCoded emptyPlace validHeader agreesTransport agreesNetwork fits sample fittable lengthOf componentOf contentsFrom contentsOf splitOf parameters restFits framedBy framedOf noFilters noMarks codedOf elementEntries twice laidRow marked readValue readElement filterFine bearerFine transactionsApart transactionFrom distinctTransactions joined rowPrecedences connectionPrecedences distinctAt distinctPrecedences wellFormed opensAt isOpen closed ofConnection deletedIn holdsIn staysIn empties old takenBy takes conflict placed conflictIn loses placedIn losesAt frees follows released followers otherAt onlyConnection laidOn laid headFine deleteFilters deletedTft modifyRead modifyNamed modifyOf activateDefaultOf activateRead activateNamed activateDedicatedOf uplink placeHas bearerHas entryIn entryAt entriesOf filterOf entryFits firstFit uplinkAt hasUplink otherwiseOf routeOn routeOf
 sequence = refl

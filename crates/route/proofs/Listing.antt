@@ -1,18 +1,19 @@
 -- The list has at each position what document 01 says: the connection's uplink filter of that precedence with its bearer, or nothing.
 use mathlib.Core.Path.{_≡_, refl, sym, _∙_, ap, subst}
-use mathlib.Core.Bool.{Bool, true, false}
-use mathlib.Core.Logic.{_⊎_, inl, inr, ⊎-elim}
+use mathlib.Core.Bool.{Bool, true, false, _&&_}
+use mathlib.Core.Logic.{inl, inr, ⊎-elim}
 use mathlib.Core.List.{List}
-use Prim.Native.Nat.{ℕ, suc, _+_, _*_, _<_, _≤_}
+use Prim.Native.Nat.{ℕ, _<_}
 use native.Mathlib.Omega.{arith}
 use lib.Dec.{eqb}
 use lib.ListN.{length, getD, set, length-set, getD-replicate}
-use lib.Seq.{getD-set-same, getD-set-other}
-use Rattle.laws.specs.Says.{pick}
+use Rattle.laws.specs.Says.{pick, Says}
+use Rattle.laws.specs.Index.{SomeBelow, anyBelow, lastBelow}
 use Rattle.laws.proofs.Tests.{both}
 use Rattle.laws.proofs.Typed.{each-at}
-use Rattle.laws.proofs.Says.{which, never, says-eq, says-ne}
-use Rattle.laws.proofs.Index.{walk-keeps}
+use Rattle.laws.proofs.Says.{last, says-it, says-eq, says-and, says-any}
+use Rattle.laws.proofs.Index.{tab-length, tab-at, tab-is, set-seen}
+use Rattle.laws.proofs.Lasts.{Last, NoLast, last-cases, last-else, last-walk}
 use Rattle.filter.specs.Coding.{held, uplink}
 use Rattle.table.specs.declared.bearer.Table.{Table}
 use Rattle.filter.specs.Sizes.{placeCount, precedenceCount}
@@ -21,109 +22,120 @@ use Rattle.table.specs.Bearers.{bearerCount, identityOf, noBearer, bearerAt, fi
 use Rattle.table.specs.Ranges.{TableInRange}
 use Rattle.table.specs.WellFormed.{Held, WellFormed}
 use Rattle.route.specs.declared.list.Entry.{Entry}
-use Rattle.route.specs.Lists.{isUplink, entryOf, nothing, emptyList, putFilter, putRow, putBearer, entriesOf}
-use Rattle.route.specs.Rule.{precedenceAt, Uplink, Named, Stands}
+use Rattle.route.specs.Lists.{isUplink, precedenceAt, entryOf, nothing, placeHas, bearerHas, entryIn, entryAt, entriesOf}
+use Rattle.route.specs.Positions.{Uplink, Named, Stands, Highest}
+use Rattle.route.specs.inner.Walk.{emptyList, putFilter, putRow, putBearer, walked}
 
-empty-length : length emptyList ≡ precedenceCount
-unfolding emptyList
-empty-length = refl
+-- ---- what stands at position p
+module _ (t : Table) (default p : ℕ) where
+  -- what the two tests say
+  place-says : (i j : ℕ) → Says (placeHas t p i j) ((isUplink (filterAt t i j) ≡ true) × (precedenceAt t i j ≡ p))
+  unfolding placeHas
+  place-says i j = says-and (says-it (isUplink (filterAt t i j))) (says-eq (precedenceAt t i j) p)
 
-empty-at : (p : ℕ) → p < precedenceCount → getD emptyList p nothing ≡ nothing
-unfolding emptyList
-empty-at p l = getD-replicate precedenceCount p nothing nothing l
+  bearer-says : (i : ℕ) → Says (bearerHas t default p i) ((connectionAt t i ≡ default) × SomeBelow placeCount (λ j. placeHas t p i j ≡ true))
+  unfolding bearerHas
+  bearer-says i = says-and (says-eq (connectionAt t i) default) (says-any placeCount (λ j _. says-it (placeHas t p i j)))
 
--- the number of place j of the bearer at index i, the places counted along the rows
-abbrev number : ℕ → ℕ → ℕ
-number i j = i * placeCount + j
+  module _ (i j : ℕ) (u : Uplink t default i j) (q : precedenceAt t i j ≡ p) where
+    has-place : placeHas t p i j ≡ true
+    has-place = place-says i j .from (u .up, q)
 
-module _ (t : Table) (default p : ℕ) (small : p < precedenceCount) where
-  -- the entry at p once the places numbered below n are put: it names a place, or none of them has precedence p
-  record Nothing (n : ℕ) (e : Entry) : Type 0 where
-    none : (i j : ℕ) → Uplink t default i j → precedenceAt t i j ≡ p → number i j < n → ⊥
-    is : e ≡ nothing
+    has-bearer : bearerHas t default p i ≡ true
+    has-bearer = bearer-says i .from (u .of, record { at = j; below = u .place; holds = has-place })
 
-  record Listed (n : ℕ) (es : List Entry) : Type 0 where
-    size : length es ≡ precedenceCount
-    stands : Named t default p (getD es p nothing) ⊎ Nothing n (getD es p nothing)
+  abbrev Said : Entry → Type 0
+  Said e = Stands t default p e × Highest t default p e
 
-  -- position p may stay as it is where no place from n to m has an uplink filter of that precedence
-  stays : (n m : ℕ) (es fs : List Entry) → length fs ≡ length es → getD fs p nothing ≡ getD es p nothing
-      → ((i j : ℕ) → Uplink t default i j → precedenceAt t i j ≡ p → n ≤ number i j → number i j < m → ⊥) → Listed n es → Listed m fs
-  stays n m es fs z e free h = record { size = z ∙ h .size; stands = rw e (⊎-elim inl (λ v. inr (after v)) (h .stands)) }
-    where
-      after : Nothing n (getD es p nothing) → Nothing m (getD es p nothing)
-      after v = record {
-        none = λ i j u q b. free i j u q (let a : number i j < n → ⊥ = v .none i j u q in omega arith) b;
-        is = v .is;
-      }
-
-  -- one place keeps that ..
-  module _ (i j : ℕ) (es : List Entry) (place : j < placeCount) (h : Listed (number i j) es) where
-    passes : (fs : List Entry) → length fs ≡ length es → getD fs p nothing ≡ getD es p nothing → (Uplink t default i j → precedenceAt t i j ≡ p → ⊥)
-        → Listed (number i (suc j)) fs
-    passes fs z e other =
-        stays (number i j) (number i (suc j)) es fs z e
-        (λ k l u q a b.
-        let x : k ≡ i = omega arith in
-        let y : l ≡ j = omega arith in
-        other (rw (x, y) at u) (rw (x, y) at q)) h
-
-    put-keeps : Uplink t default i j → Listed (number i (suc j)) (set es (precedenceAt t i j) (entryOf (identityOf i) j))
-    put-keeps u = go (which (eqb (precedenceAt t i j) p))
+  module _ (b : Last (bearerHas t default p) (entryIn t p) bearerCount (entryAt t default p)) where
+    row-said : Last (placeHas t p (b .at)) (entryOf (identityOf (b .at))) placeCount (entryIn t p (b .at)) → Said (entryAt t default p)
+    row-said l =
+        let (up, q) = place-says (b .at) (l .at) .to (l .holds) in
+        let u : Uplink t default (b .at) (l .at) = record { bearer = b .below; place = l .below; of = bearer-says (b .at) .to (b .holds) .0; up = up } in
+        rw (b .is, l .is) (inl (record { index = b .at; spot = l .at; uplink = u; precedence = q; is = refl }), high)
       where
-        entry : Entry
-        entry = entryOf (identityOf i) j
+        high : Highest t default p (entryOf (identityOf (b .at)) (l .at))
+        high i j u q =
+            ⊎-elim (λ m. inl (omega arith)) (λ e. inr (ap identityOf e, l .highest j (u .place) (subst (λ (k : ℕ). placeHas t p k j ≡ true) e (has-place i j u q))))
+            (last (let m = b .highest i (u .bearer) (has-bearer i j u q) in omega arith))
 
-        go : (eqb (precedenceAt t i j) p ≡ true) ⊎ (eqb (precedenceAt t i j) p ≡ false) → Listed (number i (suc j)) (set es (precedenceAt t i j) entry)
-        go (inl e) =
-            let q = says-eq (precedenceAt t i j) p .to e in
-            record {
-              size = length-set es (precedenceAt t i j) entry ∙ h .size;
-              stands = inl (record { index = i; spot = j; uplink = u; precedence = q; is = rw q (getD-set-same es p entry nothing (omega (arith, h .size))) });
-            }
-        go (inr e) =
-            let ne = says-ne (says-eq (precedenceAt t i j) p) e in
-            passes (set es (precedenceAt t i j) entry) (length-set es (precedenceAt t i j) entry)
-            (getD-set-other es (precedenceAt t i j) p entry nothing (λ q. ne (sym q))) (λ _. ne)
+    some-said : Said (entryAt t default p)
+    unfolding entryIn
+    some-said =
+        let s = bearer-says (b .at) .to (b .holds) .1 in
+        ⊎-elim row-said (λ n. absurd (n .none (s .at) (s .below) (s .holds))) (last-cases (placeHas t p (b .at)) (entryOf (identityOf (b .at))) nothing placeCount)
 
-  -- .. so does a row ..
-  module _ (i : ℕ) (bearer : i < bearerCount) (of : connectionAt t i ≡ default) where
-    filter-keeps : (j : ℕ) (es : List Entry) → j < placeCount → Listed (number i j) es
-        → Listed (number i (suc j)) (putFilter (bearerAt t i .row) (identityOf i) es j)
-    unfolding putFilter
-    filter-keeps j es place h = go (isUplink (filterAt t i j)) refl
-      where
-        go : (b : Bool) → isUplink (filterAt t i j) ≡ b → Listed (number i (suc j)) (pick b (set es (precedenceAt t i j) (entryOf (identityOf i) j)) es)
-        go true e = put-keeps i j es place h (record { bearer = bearer; place = place; of = of; up = e })
-        go false e = passes i j es place h es refl refl (λ u _. never (u .up) e)
-
-    row-keeps : (es : List Entry) → Listed (number i 0) es → Listed (number i placeCount) (putRow (bearerAt t i .row) (identityOf i) es)
-    unfolding putRow
-    row-keeps es h = walk-keeps (putFilter (bearerAt t i .row) (identityOf i)) es (λ j. Listed (number i j)) placeCount h filter-keeps
-
-  -- .. and a bearer
-  bearer-keeps : (i : ℕ) (es : List Entry) → i < bearerCount → Listed (number i 0) es → Listed (number (suc i) 0) (putBearer t default es i)
-  unfolding putBearer
-  bearer-keeps i es l h = go (eqb (connectionAt t i) default) refl
+  entry-said : Said (entryAt t default p)
+  unfolding entryAt
+  entry-said = ⊎-elim some-said none (last-cases (bearerHas t default p) (entryIn t p) nothing bearerCount)
     where
-      go : (b : Bool) → eqb (connectionAt t i) default ≡ b → Listed (number (suc i) 0) (pick b (putRow (bearerAt t i .row) (identityOf i) es) es)
-      go true e = subst (λ (n : ℕ). Listed n (putRow (bearerAt t i .row) (identityOf i) es)) (omega arith) (row-keeps i l (says-eq (connectionAt t i) default .to e) es h)
-      go false e =
-          stays (number i 0) (number (suc i) 0) es es refl refl
-          (λ k m u q a b. let same : k ≡ i = omega arith in says-ne (says-eq (connectionAt t i) default) e (ap (connectionAt t) (sym same) ∙ u .of)) h
+      none : NoLast (bearerHas t default p) (entryIn t p) nothing bearerCount (entryAt t default p) → Said (entryAt t default p)
+      none n =
+          let free : (i j : ℕ) → Uplink t default i j → precedenceAt t i j ≡ p → ⊥ = λ i j u q. n .none i (u .bearer) (has-bearer i j u q) in
+          (inr (record { none = free; is = n .is }), λ i j u q. absurd (free i j u q))
 
-  listed : Listed (number bearerCount 0) (entriesOf t default)
-  unfolding entriesOf
-  listed =
-      walk-keeps (putBearer t default) emptyList (λ i. Listed (number i 0)) bearerCount
-      (record { size = empty-length; stands = inr (record { none = λ i j u q b. omega arith; is = empty-at p small }) }) bearer-keeps
+  module _ (small : p < precedenceCount) where
+    entries-at : getD (entriesOf t default) p nothing ≡ entryAt t default p
+    unfolding entriesOf
+    entries-at = tab-at (entryAt t default) precedenceCount p nothing small
 
-  -- at p stands the connection's uplink filter of that precedence, or nothing, and there is none
-  pub list-stands : Stands t default p (getD (entriesOf t default) p nothing)
-  list-stands = ⊎-elim inl (λ v. inr (record { none = λ i j u q. v .none i j u q (omega arith); is = v .is })) (listed .stands)
+    -- at p stands the connection's uplink filter of that precedence, or nothing, and there is none
+    pub list-stands : Stands t default p (getD (entriesOf t default) p nothing)
+    list-stands = rw entries-at (entry-said .0)
+
+    -- .. and where there are several, the one of the highest bearer, then of the highest identifier
+    pub list-highest : Highest t default p (getD (entriesOf t default) p nothing)
+    list-highest = rw entries-at (entry-said .1)
 
 pub entries-length : (t : Table) (default : ℕ) → length (entriesOf t default) ≡ precedenceCount
-entries-length t default = listed t default 0 (omega arith) .size
+unfolding entriesOf
+entries-length t default = tab-length (entryAt t default) precedenceCount
+
+-- ---- the walk makes it: what stands at position p after each turn
+abbrev Long : List Entry → Type 0
+Long es = length es ≡ precedenceCount
+
+module _ (t : Table) (default p : ℕ) (small : p < precedenceCount) where
+  abbrev at : List Entry → Entry
+  at es = getD es p nothing
+
+  set-at : (b : Bool) (es : List Entry) (q : ℕ) (e : Entry) → Long es → let fs = pick b (set es q e) es in Long fs × (at fs ≡ pick (b && eqb q p) e (at es))
+  set-at true es q e long = (simp length-set long, set-seen es q p e nothing (λ _. omega arith))
+  set-at false es q e long = (long, refl)
+
+  put-at : (i j : ℕ) (es : List Entry) → Long es → let fs = putFilter (bearerAt t i .row) (identityOf i) es j in
+      Long fs × (at fs ≡ pick (placeHas t p i j) (entryOf (identityOf i) j) (at es))
+  unfolding putFilter placeHas
+  put-at i j es long = set-at (isUplink (filterAt t i j)) es (precedenceAt t i j) (entryOf (identityOf i) j) long
+
+  row-at : (i : ℕ) (es : List Entry) → Long es → let fs = putRow (bearerAt t i .row) (identityOf i) es in
+      Long fs × (at fs ≡ lastBelow (placeHas t p i) (entryOf (identityOf i)) (at es) placeCount)
+  unfolding putRow
+  row-at i es long = last-walk (placeHas t p i) (entryOf (identityOf i)) Long at (putFilter (bearerAt t i .row) (identityOf i)) es placeCount long (put-at i)
+
+  bearer-at : (i : ℕ) (es : List Entry) → Long es → let fs = putBearer t default es i in
+      Long fs × (at fs ≡ pick (bearerHas t default p i) (entryIn t p i) (at es))
+  unfolding putBearer bearerHas entryIn
+  bearer-at i es long = go (eqb (connectionAt t i) default)
+    where
+      row : List Entry
+      row = putRow (bearerAt t i .row) (identityOf i) es
+
+      go : (b : Bool) → Long (pick b row es) × (at (pick b row es) ≡ pick (b && anyBelow (placeHas t p i) placeCount) (entryIn t p i) (at es))
+      go false = (long, refl)
+      go true = let (z, e) = row-at i es long in (z, e ∙ last-else (placeHas t p i) (entryOf (identityOf i)) (at es) nothing placeCount)
+
+  walked-at : Long (walked t default) × (at (walked t default) ≡ entryAt t default p)
+  unfolding walked entryAt emptyList
+  walked-at =
+      let (z, e) = last-walk (bearerHas t default p) (entryIn t p) Long at (putBearer t default) emptyList bearerCount refl bearer-at in
+      (z, e ∙ ap (λ (d : Entry). lastBelow (bearerHas t default p) (entryIn t p) d bearerCount) (getD-replicate precedenceCount p nothing nothing small))
+
+-- .. so it is the list, on every table and for every number for the default
+pub walked-list : (t : Table) (default : ℕ) → walked t default ≡ entriesOf t default
+unfolding entriesOf
+walked-list t default =
+    tab-is nothing (entryAt t default) (walked t default) precedenceCount (walked-at t default 0 (omega arith) .0) (λ p small. walked-at t default p small .1)
 
 -- ---- each uplink filter is found at its precedence
 -- no two of a connection have the same

@@ -23,9 +23,10 @@ use Rattle.route.specs.declared.answer.Route.the-variants.{Bearer, Disca
 use Rattle.route.specs.declared.answer.Refusal.the-variants.{NotWellFormed, NoDefault, InvalidHeader}
 use Rattle.route.specs.declared.answer.Answer.the-variants.{Routed, Refused}
 use Rattle.route.specs.declared.list.Entry.{Entry}
-use Rattle.route.specs.Lists.{isUplink, entryOf, nothing, entriesOf, listOf}
+use Rattle.route.specs.Lists.{isUplink, precedenceAt, entryOf, nothing, entriesOf, listOf}
+use Rattle.route.specs.Positions.{Stands}
 use Rattle.route.specs.Routes.{filterOf, entryFits, firstFit, uplinkAt, hasUplink, otherwiseOf, routeOn, routeOf}
-use Rattle.route.specs.Rule.{precedenceAt, Fitting, NoneFits, Right, byFilter, byDefault, discarded, Stands}
+use Rattle.route.specs.Rule.{Fitting, NoneFits, Right, byFilter, byDefault, discarded}
 use Rattle.route.proofs.Listing.{entries-length, list-stands, same-place, position, list-at}
 
 -- ---- the first position that fits, over any list

@@ -3,20 +3,21 @@ use Prim.Native.Nat.{ℕ}
 use mathlib.Core.Bool.{Bool, _&&_}
 use mathlib.Core.List.{List}
 use lib.Dec.{eqb}
-use lib.ListN.{set, replicate}
-use Rattle.laws.specs.Says.{pick}
-use Rattle.laws.specs.Index.{walk}
-use Rattle.filter.specs.Sizes.{precedenceCount, placeCount}
+use Rattle.laws.specs.Index.{anyBelow, lastBelow, tab}
 use Rattle.filter.specs.declared.component.Filter.{Filter}
+use Rattle.filter.specs.Sizes.{placeCount, precedenceCount}
 use Rattle.filter.specs.Coding.{held, uplink}
 use Rattle.table.specs.declared.bearer.Table.{Table}
-use Rattle.table.specs.Bearers.{bearerCount, identityOf, bearerAt, inRow, connectionAt}
+use Rattle.table.specs.Bearers.{bearerCount, identityOf, filterAt, connectionAt}
 use Rattle.route.specs.declared.list.Entry.{Entry}
 use Rattle.route.specs.declared.list.OrderedList.{OrderedList}
 
 -- a place that holds a filter, and one for the uplink
 abbrev pub isUplink : Filter → Bool
 isUplink f = held f && uplink f
+
+abbrev pub precedenceAt : Table → ℕ → ℕ → ℕ
+precedenceAt t i j = filterAt t i j .precedence
 
 abbrev pub entryOf : ℕ → ℕ → Entry
 entryOf bearer place = record { bearer = bearer; place = place }
@@ -25,22 +26,25 @@ entryOf bearer place = record { bearer = bearer; place = place }
 abbrev pub nothing : Entry
 nothing = entryOf 0 0
 
-unfoldable pub emptyList : List Entry
-emptyList = replicate precedenceCount nothing
+-- place j of the bearer at index i holds an uplink filter of precedence p
+unfoldable pub placeHas : Table → ℕ → ℕ → ℕ → Bool
+placeHas t p i j = isUplink (filterAt t i j) && eqb (precedenceAt t i j) p
 
--- place j of the bearer's row, at its filter's precedence
-unfoldable pub putFilter : List Filter → ℕ → List Entry → ℕ → List Entry
-putFilter row bearer es j = pick (isUplink (inRow row j)) (set es (inRow row j .precedence) (entryOf bearer j)) es
+-- the bearer at index i is of the default's connection, and some place of its row holds one
+unfoldable pub bearerHas : Table → ℕ → ℕ → ℕ → Bool
+bearerHas t default p i = eqb (connectionAt t i) default && anyBelow (placeHas t p i) placeCount
 
-unfoldable pub putRow : List Filter → ℕ → List Entry → List Entry
-putRow row bearer es = walk (putFilter row bearer) es placeCount
+-- that filter of the bearer at index i; of several in its row, the one with the highest identifier
+unfoldable pub entryIn : Table → ℕ → ℕ → Entry
+entryIn t p i = lastBelow (placeHas t p i) (entryOf (identityOf i)) nothing placeCount
 
--- the row of the bearer at index i, where it is of the default's connection
-unfoldable pub putBearer : Table → ℕ → List Entry → ℕ → List Entry
-putBearer t default es i = pick (eqb (connectionAt t i) default) (putRow (bearerAt t i .row) (identityOf i) es) es
+-- "at each precedence its uplink filter of that precedence with the bearer, or nothing". A table that is not well formed may have several in a
+-- connection: then that of the highest bearer
+unfoldable pub entryAt : Table → ℕ → ℕ → Entry
+entryAt t default p = lastBelow (bearerHas t default p) (entryIn t p) nothing bearerCount
 
 unfoldable pub entriesOf : Table → ℕ → List Entry
-entriesOf t default = walk (putBearer t default) emptyList bearerCount
+entriesOf t default = tab (entryAt t default) precedenceCount
 
 abbrev pub listOf : Table → ℕ → OrderedList
 listOf t default = record { entries = entriesOf t default }

@@ -3,37 +3,26 @@
 use Prim.Native.Nat.{ℕ, _<_, _≤_}
 use mathlib.Core.Bool.{true}
 use mathlib.Core.Path.{_≡_}
-use mathlib.Core.Logic.{_⊎_}
 use Rattle.filter.specs.declared.packet.Header.{Header}
 use Rattle.filter.specs.Fit.{fits}
 use Rattle.table.specs.declared.bearer.Table.{Table}
 use Rattle.filter.specs.Sizes.{placeCount}
-use Rattle.table.specs.Bearers.{bearerCount, indexOf, identityOf, filterAt, connectionAt}
+use Rattle.table.specs.Bearers.{indexOf, identityOf, filterAt}
 use Rattle.route.specs.declared.answer.Route.{Route}
 use Rattle.route.specs.declared.answer.Route.the-variants.{Bearer, Discard}
-use Rattle.route.specs.declared.list.Entry.{Entry}
-use Rattle.route.specs.Lists.{isUplink, entryOf, nothing}
+use Rattle.route.specs.Lists.{isUplink, precedenceAt}
+use Rattle.route.specs.Positions.{Uplink}
 
 module _ (t : Table) where
-  abbrev pub precedenceAt : ℕ → ℕ → ℕ
-  precedenceAt i j = filterAt t i j .precedence
-
-  -- place j of the bearer at index i holds an uplink filter of the default's connection
-  pub record Uplink (default i j : ℕ) : Type 0 where
-    pub bearer : i < bearerCount
-    pub place : j < placeCount
-    pub of : connectionAt t i ≡ default
-    pub up : isUplink (filterAt t i j) ≡ true
-
-  -- .. and one that fits the header
+  -- an uplink filter of the default's connection that fits the header
   pub record Fitting (default : ℕ) (h : Header) (i j : ℕ) : Type 0 where
-    pub uplink : Uplink default i j
+    pub uplink : Uplink t default i j
     pub fit : fits (filterAt t i j) h ≡ true
 
   -- .. and none that fits has a lesser precedence
   pub record Least (default : ℕ) (h : Header) (i j : ℕ) : Type 0 where
     pub fitting : Fitting default h i j
-    pub least : (k l : ℕ) → Fitting default h k l → precedenceAt i j ≤ precedenceAt k l
+    pub least : (k l : ℕ) → Fitting default h k l → precedenceAt t i j ≤ precedenceAt t k l
 
   abbrev pub NoneFits : ℕ → Header → Type 0
   NoneFits default h = (i j : ℕ) → Fitting default h i j → ⊥
@@ -47,18 +36,3 @@ module _ (t : Table) where
     byFilter : (i j : ℕ) → Least default h i j → r ≡ Bearer (identityOf i) → Right default h r
     byDefault : NoneFits default h → ((j : ℕ) → OwnUplink default j → ⊥) → r ≡ Bearer default → Right default h r
     discarded : NoneFits default h → (j : ℕ) → OwnUplink default j → r ≡ Discard → Right default h r
-
-  -- ---- What stands at position p of the list: the uplink filter of that precedence with its bearer, or nothing, and there is none
-  pub record Named (default p : ℕ) (e : Entry) : Type 0 where
-    pub index : ℕ
-    pub spot : ℕ
-    pub uplink : Uplink default index spot
-    pub precedence : precedenceAt index spot ≡ p
-    pub is : e ≡ entryOf (identityOf index) spot
-
-  pub record Vacant (default p : ℕ) (e : Entry) : Type 0 where
-    pub none : (i j : ℕ) → Uplink default i j → precedenceAt i j ≡ p → ⊥
-    pub is : e ≡ nothing
-
-  abbrev pub Stands : ℕ → ℕ → Entry → Type 0
-  Stands default p e = Named default p e ⊎ Vacant default p e

@@ -1,6 +1,7 @@
 // The choice of a bearer for an uplink packet.
 ghost use mathlib.Core.Path.{_≡_};
 ghost use Prim.Native.Nat.{_<_};
+ghost use Rattle.filter.specs.Sizes.{placeCount};
 ghost use Rattle.route.specs.Routes.{filterOf, entryFits, firstFit, uplinkAt, hasUplink, otherwiseOf, routeOn, routeOf};
 use crate::answer::Answer;
 use crate::answer::Refusal;
@@ -70,7 +71,7 @@ fn first_fit(list: OrderedList, t: Table, header: Header, otherwise: Route) -> R
 }
 
 fn uplink_at(row: [Filter; PLACES], j: usize) -> bool
-    requires { ⌜ j < 16 ⌝ }
+    requires { ⌜ j < placeCount ⌝ }
     ensures { λ r. ⌜ r ≡ uplinkAt row j ⌝ }
 {
     let filter = row[j];

@@ -1,7 +1,10 @@
 // The ordered list of a connection.
 ghost use mathlib.Core.Path.{_≡_};
 ghost use Prim.Native.Nat.{_<_};
-ghost use Rattle.route.specs.Lists.{isUplink, putFilter, putRow, putBearer, emptyList, listOf};
+ghost use Rattle.filter.specs.Sizes.{placeCount};
+ghost use Rattle.table.specs.Bearers.{bearerCount};
+ghost use Rattle.route.specs.Lists.{isUplink, listOf};
+ghost use Rattle.route.specs.inner.Walk.{emptyList, putFilter, putRow, putBearer};
 use filter::Filter;
 use filter::coding::held;
 use filter::coding::uplink;
@@ -30,7 +33,7 @@ pub(crate) fn is_uplink(filter: Filter) -> bool
 }
 
 fn put_filter(list: OrderedList, bearer: u8, row: [Filter; PLACES], j: usize) -> OrderedList
-    requires { ⌜ j < 16 ⌝ }
+    requires { ⌜ j < placeCount ⌝ }
     ensures { λ r. ⌜ r .entries ≡ putFilter row bearer (list .entries) j ⌝ }
 {
     let filter = row[j];
@@ -56,7 +59,7 @@ fn put_row(list: OrderedList, bearer: u8, row: [Filter; PLACES]) -> OrderedList
 }
 
 fn put_bearer(list: OrderedList, t: Table, default: u8, i: usize) -> OrderedList
-    requires { ⌜ i < 11 ⌝ }
+    requires { ⌜ i < bearerCount ⌝ }
     ensures { λ r. ⌜ r .entries ≡ putBearer t default (list .entries) i ⌝ }
 {
     if connection_at(t, i) == default {

@@ -4,6 +4,7 @@ use mathlib.Core.Path.{_≡_, refl, sym, _∙_}
 use Prim.Native.Nat.{_≤_, _-_}
 use native.Mathlib.Omega.{arith}
 use lib.ListN.{drop}
+use Rattle.filter.specs.Sizes.{precedenceCount}
 use Rattle.route.specs.Routes.{firstFit}
 use Rattle.route.proofs.Firsts.{fit-hit, fit-miss, fit-none}
 use Rattle.route.proofs.Typed.{list-long}
@@ -12,10 +13,10 @@ use Rattle.route.proofs.choose.first_fit.Statement.{statement}
 use Rattle.route.proofs.choose.first_fit.Tie as tie
 
 abbrev Inv-loop : tie.InvT-loop
-Inv-loop t header otherwise list p₀ p = (p ≤ 256) × (firstFit t header otherwise (drop p (list .entries)) ≡ firstFit t header otherwise (list .entries))
+Inv-loop t header otherwise list p₀ p = (p ≤ precedenceCount) × (firstFit t header otherwise (drop p (list .entries)) ≡ firstFit t header otherwise (list .entries))
 
 abbrev μ-loop : tie.MeasureT-loop
-μ-loop t header otherwise list p₀ p = 256 - p
+μ-loop t header otherwise list p₀ p = precedenceCount - p
 
 loop-holds : tie.Need-loop-holds Inv-loop μ-loop
 loop-holds c = (omega arith, refl)

@@ -5,16 +5,17 @@ use Prim.Native.Nat.{_≤_, _-_}
 use native.Mathlib.Omega.{arith}
 use Rattle.laws.specs.Index.{anyBelow}
 use Rattle.laws.proofs.Index.{any-start, any-more, done}
+use Rattle.filter.specs.Sizes.{placeCount}
 use Rattle.route.specs.Routes.{uplinkAt, hasUplink}
 use borrow.Author.Needs.{needs}
 use Rattle.route.proofs.choose.has_uplink.Statement.{statement}
 use Rattle.route.proofs.choose.has_uplink.Tie as tie
 
 abbrev Inv-loop : tie.InvT-loop
-Inv-loop row some₀ j₀ some j = (j ≤ 16) × (some ≡ anyBelow (uplinkAt row) j)
+Inv-loop row some₀ j₀ some j = (j ≤ placeCount) × (some ≡ anyBelow (uplinkAt row) j)
 
 abbrev μ-loop : tie.MeasureT-loop
-μ-loop row some₀ j₀ some j = 16 - j
+μ-loop row some₀ j₀ some j = placeCount - j
 
 loop-holds : tie.Need-loop-holds Inv-loop μ-loop
 loop-holds c =
@@ -32,7 +33,7 @@ unfolding hasUplink
 returns c =
     let a = c .before .before .args in
     let l = c .before .loop in
-    done (anyBelow (uplinkAt (a .row))) (l .j) 16 _ (omega arith) (omega arith) (l .inv .1)
+    done (anyBelow (uplinkAt (a .row))) (l .j) placeCount _ (omega arith) (omega arith) (l .inv .1)
 
 pub has-uplink-spec : {M : Type 1} → statement M
 has-uplink-spec = tie.close (tie.spec Inv-loop μ-loop loop-holds (λ c κs. search needs) (λ c. search needs) (λ c. search needs) loop-again returns)

@@ -1,7 +1,7 @@
 -- `route::list::empty_list` meets its contract: 256 entries that name nothing.
 -- Assumes nothing.
 use mathlib.Core.Path.{refl}
-use Rattle.route.specs.Lists.{emptyList}
+use Rattle.route.specs.inner.Walk.{emptyList}
 use Rattle.route.proofs.list.empty_list.Statement.{statement}
 use Rattle.route.proofs.list.empty_list.Tie as tie
 

@@ -4,7 +4,7 @@ use mathlib.Core.Path.{sym, _∙_, ap}
 use Prim.Native.Nat.{ℕ}
 use lib.Dec.{eqb}
 use borrow.Author.Tests.{eq-eqb, ne-eqb}
-use Rattle.route.specs.Lists.{putBearer}
+use Rattle.route.specs.inner.Walk.{putBearer}
 use borrow.Author.Needs.{needs}
 use Rattle.route.proofs.list.put_bearer.Statement.{statement}
 use Rattle.route.proofs.list.put_bearer.Tie as tie

@@ -1,7 +1,7 @@
 -- `route::list::put_filter` meets its contract: an uplink filter is stored at its precedence, another not.
 -- Assumes nothing.
 use mathlib.Core.Path.{sym, _∙_}
-use Rattle.route.specs.Lists.{putFilter}
+use Rattle.route.specs.inner.Walk.{putFilter}
 use borrow.Author.Needs.{needs}
 use Rattle.route.proofs.list.put_filter.Statement.{statement}
 use Rattle.route.proofs.list.put_filter.Tie as tie
