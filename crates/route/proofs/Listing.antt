@@ -1,9 +1,9 @@
 -- The list has at each position what document 01 says: the connection's uplink filter of that precedence with its bearer, or nothing.
 use mathlib.Core.Path.{_≡_, refl, sym, _∙_, ap, subst}
 use mathlib.Core.Bool.{Bool, true, false, _&&_}
-use mathlib.Core.Logic.{inl, inr, ⊎-elim}
+use mathlib.Core.Logic.{_⊎_, inl, inr, ⊎-elim}
 use mathlib.Core.List.{List}
-use Prim.Native.Nat.{ℕ, _<_}
+use Prim.Native.Nat.{ℕ, _<_, _≤_}
 use native.Mathlib.Omega.{arith}
 use lib.Dec.{eqb}
 use lib.ListN.{length, getD, set, length-set, getD-replicate}
@@ -86,6 +86,26 @@ module _ (t : Table) (default p : ℕ) where
     -- .. and where there are several, the one of the highest bearer, then of the highest identifier
     pub list-highest : Highest t default p (getD (entriesOf t default) p nothing)
     list-highest = rw entries-at (entry-said .1)
+
+  -- only one entry can stand there so
+  pub stands-one : (e f : Entry) → Stands t default p e → Highest t default p e → Stands t default p f → Highest t default p f → e ≡ f
+  stands-one e f (inl n) a (inl m) b =
+      n .is
+      ∙ same (n .index) (n .spot) (m .index) (m .spot) (subst (Highest t default p) (n .is) a (m .index) (m .spot) (m .uplink) (m .precedence))
+      (subst (Highest t default p) (m .is) b (n .index) (n .spot) (n .uplink) (n .precedence))
+      ∙ sym (m .is)
+    where
+      NoHigher : ℕ → ℕ → ℕ → ℕ → Type 0
+      NoHigher k l i j = (identityOf k < identityOf i) ⊎ ((identityOf k ≡ identityOf i) × (l ≤ j))
+
+      same : (i j k l : ℕ) → NoHigher k l i j → NoHigher i j k l → entryOf (identityOf i) j ≡ entryOf (identityOf k) l
+      same i j k l (inl x) (inl y) = absurd (omega arith)
+      same i j k l (inl x) (inr y) = absurd (omega (arith, y .0))
+      same i j k l (inr x) (inl y) = absurd (omega (arith, x .0))
+      same i j k l (inr x) (inr y) = let q : j ≡ l = omega (arith, x .1, y .1) in rw (y .0, q)
+  stands-one e f (inl n) a (inr v) b = absurd (v .none (n .index) (n .spot) (n .uplink) (n .precedence))
+  stands-one e f (inr v) a (inl m) b = absurd (v .none (m .index) (m .spot) (m .uplink) (m .precedence))
+  stands-one e f (inr v) a (inr w) b = v .is ∙ sym (w .is)
 
 pub entries-length : (t : Table) (default : ℕ) → length (entriesOf t default) ≡ precedenceCount
 unfolding entriesOf
