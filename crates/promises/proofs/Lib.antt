@@ -2,4 +2,3 @@ pub mod Demand1
 pub mod Demand2
 pub mod Demand3
 pub mod Samples
-pub mod Sequence

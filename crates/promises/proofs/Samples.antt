@@ -1,4 +1,5 @@
--- Document 01's sample elements, those marked * and one more: a single list under a single claim about the written definitions, computed.
+-- Document 01's sample elements, those marked * and two more: a single list under a single claim about the written definitions, computed; and a
+-- sequence of calls with two routes, computed too.
 -- "Bearer 5 default without TFT; 6 dedicated, linked to 5."
 -- Assumes nothing.
 use mathlib.Core.Path.{_≡_, refl}
@@ -8,22 +9,23 @@ use Prim.Native.Nat.{ℕ}
 use lib.Dec.{eqb}
 use lib.ListN.{length, getD, take}
 use Rattle.laws.specs.Says.{pick}
-use Rattle.laws.specs.Index.{allBelow, anyBelow, picks, tab, pad, joined}
+use Rattle.laws.specs.Index.{allBelow, anyBelow, lastBelow, picks, tab, pad, joined}
 use Rattle.laws.specs.Lists.{every, isIn, repeats}
 use Rattle.laws.specs.Numbers.{sameUnder}
 use Rattle.laws.specs.Octets.{beFrom}
 use Rattle.filter.specs.declared.component.Filter.{Filter}
 use Rattle.filter.specs.Build.{Component, protocol, bare, excluded, added, built, emptyFilter}
-use Rattle.filter.specs.Coding.{held, wellCoded, emptyPlace}
+use Rattle.filter.specs.declared.packet.Header.{Header}
+use Rattle.filter.specs.Coding.{held, wellCoded, emptyPlace, uplink}
 use Rattle.filter.specs.Fit.{validHeader, agreesTransport, agreesNetwork, fits}
 use Rattle.filter.specs.Fittable.{sample, fittable}
 use Rattle.element.specs.Contents.{lengthOf, componentOf, contentsFrom, contentsOf}
 use Rattle.element.specs.Framing.{splitOf, parameters, restFits, framedBy, framedOf}
-use Rattle.element.specs.Read.{noFilters, noMarks, codedOf, entriesOf, twice, laid as laidRow, marked, readValue, readElement}
+use Rattle.element.specs.Read.{noFilters, noMarks, codedOf, entriesOf as elementEntries, twice, laid as laidRow, marked, readValue, readElement}
 use Rattle.table.specs.declared.bearer.Role.{Role}
 use Rattle.table.specs.declared.bearer.Role.the-variants.{Idle, Default, Dedicated}
 use Rattle.table.specs.declared.bearer.Table.{Table}
-use Rattle.table.specs.Bearers.{filterAt, build}
+use Rattle.table.specs.Bearers.{roleAt, emptyTable, filterAt, build}
 use Rattle.table.specs.WellFormed.{filterFine, bearerFine, transactionsApart, transactionFrom, distinctTransactions, rowPrecedences, connectionPrecedences, distinctAt, distinctPrecedences, wellFormed}
 use Rattle.calls.specs.declared.reply.Answer.{Answer}
 use Rattle.calls.specs.declared.reply.Answer.the-variants.{Accept, Reject, Release, Reattach, Started, Closed, Refused}
@@ -31,9 +33,15 @@ use Rattle.calls.specs.declared.reply.Outcome.{Outcome}
 use Rattle.calls.specs.Reply.{causeNumber, refusalNumber}
 use Rattle.calls.specs.Steps.{opensAt, isOpen, closed, ofConnection, deletedIn, holdsIn, staysIn, empties}
 use Rattle.calls.specs.Lay.{old, takenBy, takes, conflict, placed, conflictIn, loses, placedIn, losesAt, conflictOnDefault, follows, released, followers, otherAt, onlyConnection, layWithin, layOf}
-use Rattle.promises.specs.Calls.{modify, outcomeOf}
 use Rattle.element.specs.Head.{headFine}
 use Rattle.calls.specs.Modify.{deleteFilters, deletedTft, modifyRead, modifyNamed, modifyOf}
+use Rattle.calls.specs.Others.{activateDefaultOf, activateRead, activateNamed, activateDedicatedOf}
+use Rattle.route.specs.declared.answer.Route.the-variants.{Bearer, Discard}
+use Rattle.route.specs.declared.answer.Answer.{Answer as RouteAnswer}
+use Rattle.route.specs.declared.answer.Answer.the-variants.{Routed, Refused as routeRefused}
+use Rattle.route.specs.Lists.{placeHas, bearerHas, entryIn, entryAt, entriesOf}
+use Rattle.route.specs.Routes.{filterOf, entryFits, firstFit, uplinkAt, hasUplink, otherwiseOf, routeOn, routeOf}
+use Rattle.promises.specs.Calls.{Call, activateDefault, activateDedicated, modify, outcomeOf, run, reached}
 
 -- precedence 10, UDP
 abbrev udp : Filter
@@ -92,7 +100,9 @@ sip = 0x21 ∷ 0x31 ∷ 0x0A ∷ 0x05 ∷ 0x30 ∷ 0x11 ∷ 0x50 ∷ 0x13 ∷ 0x
 abbrev add : List ℕ
 add = 0x61 ∷ 0x31 ∷ 0x0A ∷ 0x02 ∷ 0x30 ∷ 0x11 ∷ []
 
-pub samples : (
+abbrev Samples : Type 0
+Samples =
+    (
     -- "filter 1, precedence 10, UDP, remote port 5060; accept"
     tells (on none 6 sip)
     ∷ left (on none 6 sip) 1 1
@@ -124,5 +134,39 @@ pub samples : (
     ≡ (accepts 6 [] ∷ (10 ∷ []) ∷ rejects 6 42 ∷ rejects 6 42 ∷ accepts 6 [] ∷ rejects 6 41 ∷ rejects 6 41 ∷ rejects 5 42
     ∷ rejects 6 41 ∷ accepts 5 [] ∷ (0 ∷ []) ∷ rejects 6 44 ∷ rejects 6 44 ∷ rejects 6 45
     ∷ accepts 6 (7 ∷ []) ∷ (0 ∷ []) ∷ reattaches ∷ releases 5 ∷ accepts 6 [] ∷ [])
-unfolding allBelow anyBelow picks tab pad every isIn repeats sameUnder beFrom excluded added built held wellCoded emptyPlace validHeader agreesTransport agreesNetwork fits sample fittable lengthOf componentOf contentsFrom contentsOf splitOf parameters restFits framedBy framedOf noFilters noMarks codedOf entriesOf twice laidRow marked readValue readElement filterFine bearerFine transactionsApart transactionFrom distinctTransactions joined rowPrecedences connectionPrecedences distinctAt distinctPrecedences wellFormed opensAt isOpen closed ofConnection deletedIn holdsIn staysIn empties old takenBy takes conflict placed conflictIn loses placedIn losesAt conflictOnDefault follows released followers otherAt onlyConnection layWithin layOf headFine deleteFilters deletedTft modifyRead modifyNamed modifyOf
-samples = refl
+
+-- ---- A sequence of calls: 5 is activated as a default and 6 with the filter of the first sample, from the empty table
+abbrev twoCalls : List Call
+twoCalls = activateDefault 5 ∷ activateDedicated 6 5 0 sip ∷ []
+
+abbrev asNumber : Role → ℕ
+asNumber Idle = 0
+asNumber Default = 1
+asNumber (Dedicated link) = link
+
+-- version 4, UDP, to this remote port
+abbrev udpTo : ℕ → Header
+udpTo port = record { version = 4; address = record { high = 0; low = 0 }; protocol = 17; local = 0; remote = port; index = 0; class = 0; label = 0 }
+
+abbrev way : RouteAnswer → ℕ
+way (Routed (Bearer bearer)) = bearer
+way (Routed Discard) = 100
+way (routeRefused refusal) = 200
+
+-- bearers 5, 6 and 7; then "header version 4, protocol 17, remote port 5060 routes to 6; 5061 to 5"
+abbrev Sequence : Type 0
+Sequence =
+    (asNumber (roleAt (reached twoCalls) 0) ∷ asNumber (roleAt (reached twoCalls) 1) ∷ asNumber (roleAt (reached twoCalls) 2)
+    ∷ way (routeOf (reached twoCalls) 5 (udpTo 5060)) ∷ way (routeOf (reached twoCalls) 5 (udpTo 5061)) ∷ [])
+    ≡ (1 ∷ 5 ∷ 0 ∷ 6 ∷ 5 ∷ [])
+
+-- ---- Both are computed, by opening the definitions that they are said in
+computed : Samples × Sequence
+unfolding allBelow anyBelow picks tab pad every isIn repeats sameUnder beFrom excluded added built held wellCoded emptyPlace validHeader agreesTransport agreesNetwork fits sample fittable lengthOf componentOf contentsFrom contentsOf splitOf parameters restFits framedBy framedOf noFilters noMarks codedOf elementEntries twice laidRow marked readValue readElement filterFine bearerFine transactionsApart transactionFrom distinctTransactions joined rowPrecedences connectionPrecedences distinctAt distinctPrecedences wellFormed opensAt isOpen closed ofConnection deletedIn holdsIn staysIn empties old takenBy takes conflict placed conflictIn loses placedIn losesAt conflictOnDefault follows released followers otherAt onlyConnection layWithin layOf headFine deleteFilters deletedTft modifyRead modifyNamed modifyOf run emptyTable activateDefaultOf activateRead activateNamed activateDedicatedOf lastBelow uplink placeHas bearerHas entryIn entryAt entriesOf filterOf entryFits firstFit uplinkAt hasUplink otherwiseOf routeOn routeOf
+computed = (refl, refl)
+
+pub samples : Samples
+samples = computed .0
+
+pub sequence : Sequence
+sequence = computed .1
