@@ -1,11 +1,10 @@
 -- Each call gives a number of document 01's list, of those that are its own; 0 where nothing is refused.
 -- Assumes nothing.
 use mathlib.Core.Path.{_≡_, refl, sym, subst}
-use mathlib.Core.Bool.{Bool, true, false, _&&_, _||_}
+use mathlib.Core.Bool.{Bool, true, _&&_, _||_}
 use mathlib.Core.List.{List, [], _∷_}
 use Prim.Native.Nat.{ℕ}
 use lib.Dec.{eqb}
-use Rattle.laws.specs.Says.{pick}
 use Rattle.laws.specs.Lists.{isIn}
 use Rattle.filter.specs.declared.component.Filter.{Filter}
 use Rattle.element.specs.declared.answer.Cause.{Cause as ReadCause}
@@ -21,8 +20,7 @@ use Rattle.table.specs.declared.bearer.Role.the-variants.{Dedicated}
 use Rattle.table.specs.declared.bearer.Table.{Table}
 use Rattle.table.specs.Bearers.{indexOf, transactionAt, build, isIdle, isDefault, isDedicated, roleOf}
 use Rattle.table.specs.WellFormed.{wellFormed}
-use Rattle.calls.specs.declared.reply.Outcome.{Outcome}
-use Rattle.calls.specs.Reply.{causeNumber, numberOf, causeOf}
+use Rattle.calls.specs.Reply.{causeNumber, causeOf}
 use Rattle.calls.specs.Steps.{isOpen, closed, openedView, empties}
 use Rattle.calls.specs.Lay.{layOf}
 use Rattle.element.specs.Head.{create, deleteTft, operationOf, headFine}

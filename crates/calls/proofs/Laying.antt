@@ -4,7 +4,7 @@ use mathlib.Core.Path.{_≡_, refl, sym, _∙_, ap, subst}
 use mathlib.Core.Bool.{Bool, true, false, _&&_, _||_}
 use mathlib.Core.Logic.{_⊎_, inl, inr, ⊎-elim}
 use mathlib.Core.List.{List, []}
-use Prim.Native.Nat.{ℕ, _<_, _≤_}
+use Prim.Native.Nat.{ℕ, _<_}
 use native.Mathlib.Nat.{not-suc-le-zero}
 use native.Mathlib.Omega.{arith}
 use lib.Dec.{eqb}
@@ -23,7 +23,7 @@ use Rattle.table.specs.declared.bearer.Table.{Table}
 use Rattle.filter.specs.Sizes.{placeCount}
 use Rattle.filter.specs.Build.{emptyFilter}
 use Rattle.table.specs.Bearers.{bearerCount, indexOf, identityOf, noBearer, bearerAt, inRow, roleAt, transactionAt, filterAt, View, view, build, isIdle, isDedicated, roleOf, connectionOf, connectionAt}
-use Rattle.table.specs.WellFormed.{wellFormed, Held, WellFormed}
+use Rattle.table.specs.WellFormed.{wellFormed, WellFormed}
 use Rattle.table.specs.Ranges.{TableInRange}
 use Rattle.table.proofs.Meaning.{default-says, dedicated-says, well-says}
 use Rattle.element.specs.declared.answer.Answer.{Answer as ReadAnswer}

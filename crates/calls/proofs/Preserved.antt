@@ -8,7 +8,7 @@ use native.Mathlib.Omega.{arith}
 use lib.Dec.{eqb}
 use lib.ListN.{getD}
 use Rattle.laws.specs.Says.{pick, Says}
-use Rattle.laws.specs.Index.{anyBelow, SomeBelow}
+use Rattle.laws.specs.Index.{anyBelow}
 use Rattle.laws.proofs.Tests.{both}
 use Rattle.laws.proofs.Says.{never, says-it, says-eq, says-and, says-any, says-no, says-ne}
 use Rattle.filter.specs.declared.component.Filter.{Filter}

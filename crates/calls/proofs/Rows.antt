@@ -2,13 +2,13 @@
 use mathlib.Core.Path.{_≡_, refl, sym, _∙_, ap, subst}
 use mathlib.Core.List.{List}
 use mathlib.Core.Logic.{⊎-elim}
-use Prim.Native.Nat.{ℕ, zero, suc, _+_, _<_, _≤_}
+use Prim.Native.Nat.{ℕ, _+_, _<_, _≤_}
 use native.Mathlib.Omega.{arith}
 use lib.Dec.{eqb}
 use lib.ListN.{length, getD, set, length-set}
-use lib.Seq.{getD-set-same, getD-set-other, set-getD}
+use lib.Seq.{getD-set-same, getD-set-other}
 use Rattle.laws.specs.Index.{tab}
-use Rattle.laws.proofs.Index.{next, tab-is, stored, stored-start, stored-more, stored-done}
+use Rattle.laws.proofs.Index.{tab-is, stored, stored-start, stored-more, stored-skip, stored-done}
 use Rattle.laws.proofs.Says.{which, says-eq, says-ne}
 use Rattle.laws.proofs.Typed.{each-at}
 use Rattle.filter.specs.declared.component.Filter.{Filter}
@@ -34,21 +34,6 @@ row-kept role x row e = ap (bearerWith role x) (row-self row e)
 pub row-kept-at : (t : Table) (i : ℕ) → TableInRange t → i < bearerCount → (role : Role) (x : ℕ)
     → bearerWith role x (bearerAt t i .row) ≡ bearerWith role x (tab (filterAt t i) placeCount)
 row-kept-at t i ok l role x = row-kept role x (bearerAt t i .row) (each-at (ok .bearers) noBearer i l .row .count)
-
--- ---- a store that is left out, because f tells what stands there
-module _ {A : Type 0} (f : ℕ → A) (xs : List A) (d : A) where
-  stored-rest : (n i : ℕ) → n ≤ i → getD (stored f xs n) i d ≡ getD xs i d
-  unfolding stored
-  stored-rest zero i l = refl
-  stored-rest (suc n) i l =
-      let ne : i ≡ n → ⊥ = λ e. omega arith in
-      getD-set-other (stored f xs n) n i (f n) d ne ∙ stored-rest n i (omega arith)
-
-  pub stored-skip : (i : ℕ) (ys : List A) → getD xs i d ≡ f i → ys ≡ stored f xs i → ys ≡ stored f xs (i + 1)
-  unfolding stored
-  stored-skip i ys h e =
-      let here : getD (stored f xs i) i d ≡ f i = stored-rest i i (omega arith) ∙ h in
-      next (stored f xs) i ys (e ∙ sym (ap (set (stored f xs i) i) (sym here) ∙ set-getD (stored f xs i) i d))
 
 -- ---- a loop that stores the view's bearers, the index i being next: t is the table before the loop
 module _ (v : View) (t : Table) where

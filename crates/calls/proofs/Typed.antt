@@ -2,8 +2,7 @@
 use mathlib.Core.Path.{_≡_}
 use mathlib.Core.Bool.{Bool}
 use mathlib.Core.List.{List}
-use Prim.Native.Nat.{ℕ, _<_}
-use mir.Syntax.{w8}
+use Prim.Native.Nat.{_<_}
 use mir.Val.{Val}
 use denote.Laws.{Is}
 use denote.Array.{Array}

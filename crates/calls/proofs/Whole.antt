@@ -3,13 +3,13 @@ use mathlib.Core.Path.{_≡_, refl, sym, _∙_, ap, subst}
 use mathlib.Core.Bool.{Bool, true, false, _&&_, _||_}
 use mathlib.Core.Logic.{⊎-elim}
 use mathlib.Core.List.{List}
-use Prim.Native.Nat.{ℕ, zero, suc, _^_, _<_, _≤_}
+use Prim.Native.Nat.{ℕ, _^_, _<_, _≤_}
 use native.Mathlib.Omega.{arith}
 use lib.Dec.{eqb}
 use lib.ListN.{length, getD, replicate}
 use borrow.Author.Tests.{eqb-true, eq-eqb, eqb-false, ne-eqb, le-leb}
 use Rattle.laws.specs.Says.{pick}
-use Rattle.laws.specs.Index.{anyBelow, tab}
+use Rattle.laws.specs.Index.{anyBelow}
 use Rattle.laws.specs.Lists.{every, All, Each}
 use Rattle.laws.proofs.Lists.{each-tab}
 use Rattle.laws.proofs.Loops.{every-at}
@@ -38,7 +38,7 @@ use Rattle.filter.specs.Sizes.{placeCount}
 use Rattle.filter.specs.Build.{emptyFilter}
 use Rattle.table.specs.Bearers.{firstIdentity, lastIdentity, bearerCount, lastTransaction, isIdentity, indexOf, noBearer, inRow, roleAt, transactionAt, filterAt, View, view, bearerOf, build, isIdle, isDefault, isDedicated, roleOf, connectionAt}
 use Rattle.table.specs.Ranges.{RoleInRange, BearerInRange, TableInRange}
-use Rattle.table.specs.WellFormed.{wellFormed, Well, WellFormed}
+use Rattle.table.specs.WellFormed.{wellFormed, Well}
 use Rattle.table.proofs.Meaning.{Fine, idle-says, default-says, range-says, place-says, well-says}
 use Rattle.calls.specs.declared.reply.Outcome.{Outcome}
 use Rattle.calls.specs.Steps.{opensAt, isOpen, ownerBelow, closedView, closed, startedView, openedView, cutView, ofConnection, isAt, droppedBy, dropped, deletedIn, deletedView, empties}

@@ -1,14 +1,13 @@
 // The steps that calls are made of.
 ghost use mathlib.Core.Path.{_≡_};
 ghost use mathlib.Core.Bool.{true};
-ghost use lib.Dec.{eqb};
 ghost use Prim.Native.Nat.{_<_};
 ghost use Rattle.laws.specs.Says.{pick};
 ghost use Rattle.laws.specs.Index.{anyBelow, tab};
 ghost use Rattle.filter.specs.Build.{emptyFilter};
-ghost use Rattle.table.specs.Bearers.{build, connectionOf, bearerCount};
+ghost use Rattle.table.specs.Bearers.{build, bearerCount};
 ghost use Rattle.calls.specs.inner.Walk.{cutBearer};
-ghost use Rattle.calls.specs.Steps.{opensAt, isOpen, ownerBelow, closedView, closed, startedView, openedView, cutView, ofConnection, isAt, dropped, deletedIn, deletedView, holdsIn, staysIn, empties};
+ghost use Rattle.calls.specs.Steps.{opensAt, isOpen, ownerBelow, closed, startedView, openedView, cutView, ofConnection, isAt, dropped, deletedIn, deletedView, holdsIn, staysIn, empties};
 ghost use Rattle.filter.specs.Sizes.{placeCount};
 use filter::Filter;
 use filter::coding::held;

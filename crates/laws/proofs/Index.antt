@@ -10,7 +10,7 @@ use native.Mathlib.Omega.{arith}
 use mathlib.Core.List.{List, [], _∷_, _++_, append-nil}
 use lib.Dec.{eqb}
 use lib.ListN.{length, getD, set, length-set, length-append, List·getD-append}
-use lib.Seq.{getD-set-same, getD-set-other, ext-getD, getD-append-seam}
+use lib.Seq.{set-getD, getD-set-same, getD-set-other, ext-getD, getD-append-seam}
 use Rattle.laws.specs.Says.{pick}
 use Rattle.laws.specs.Index.{allBelow, anyBelow, SomeBelow, picks, walk, tab, pad}
 use Rattle.laws.proofs.Says.{last, never, says-eq, says-ne}
@@ -114,6 +114,21 @@ module _ {A : Type 0} (f : ℕ → A) (xs : List A) where
   -- all of them
   pub stored-done : (d : A) (i n : ℕ) (ys : List A) → length xs ≡ n → n ≤ i → i ≤ n → ys ≡ stored i → ys ≡ tab f n
   stored-done d i n ys h l m e = done (stored) i n ys l m e ∙ tab-is d f (stored n) n (stored-length n ∙ h) (λ k q. stored-at d n k (omega arith) q)
+
+-- a store that is left out, because f tells what stands there
+module _ {A : Type 0} (f : ℕ → A) (xs : List A) (d : A) where
+  stored-rest : (n i : ℕ) → n ≤ i → getD (stored f xs n) i d ≡ getD xs i d
+  unfolding stored
+  stored-rest zero i l = refl
+  stored-rest (suc n) i l =
+      let ne : i ≡ n → ⊥ = λ e. omega arith in
+      getD-set-other (stored f xs n) n i (f n) d ne ∙ stored-rest n i (omega arith)
+
+  pub stored-skip : (i : ℕ) (ys : List A) → getD xs i d ≡ f i → ys ≡ stored f xs i → ys ≡ stored f xs (i + 1)
+  unfolding stored
+  stored-skip i ys h e =
+      let here : getD (stored f xs i) i d ≡ f i = stored-rest i i (omega arith) ∙ h in
+      next (stored f xs) i ys (e ∙ sym (ap (set (stored f xs i) i) (sym here) ∙ set-getD (stored f xs i) i d))
 
 -- ---- membership, and a list that rises
 abbrev pub In : List ℕ → ℕ → Type 0

@@ -1,6 +1,6 @@
 -- Numbers compared under a mask and with a range.
 use Prim.Native.Nat.{ℕ, zero, suc, _/_, _%_}
-use mathlib.Core.Bool.{Bool, true, false, _&&_, _||_}
+use mathlib.Core.Bool.{Bool, true, _&&_, _||_}
 use lib.Dec.{eqb, leb}
 
 -- x and y are equal under the mask: of the w lowest bits, those where the mask has a 1 are the same in both

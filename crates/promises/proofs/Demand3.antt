@@ -21,7 +21,7 @@ use Rattle.filter.specs.Sizes.{placeCount}
 use Rattle.filter.specs.Build.{emptyFilter}
 use Rattle.table.specs.Bearers.{bearerCount, identityOf, emptyTable, filterAt, isDefault, roleOf, connectionAt}
 use Rattle.table.specs.Ranges.{BearerInRange, TableInRange}
-use Rattle.table.specs.WellFormed.{filterFine, bearerFine, transactionsApart, transactionFrom, distinctTransactions, distinctAt, distinctPrecedences, wellFormed, Held, WellFormed}
+use Rattle.table.specs.WellFormed.{filterFine, bearerFine, transactionsApart, transactionFrom, distinctTransactions, distinctAt, distinctPrecedences, wellFormed, Held}
 use Rattle.table.proofs.Meaning.{well-says}
 use Rattle.calls.specs.Modify.{modifyOf}
 use Rattle.calls.specs.Changes.{Sound, Unnamed}

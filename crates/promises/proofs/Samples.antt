@@ -3,18 +3,18 @@
 -- "Bearer 5 default without TFT; 6 dedicated, linked to 5."
 -- Assumes nothing.
 use mathlib.Core.Path.{_≡_, refl}
-use mathlib.Core.Bool.{Bool, true, false, not, _&&_, _||_}
+use mathlib.Core.Bool.{Bool, true, false, _&&_, _||_}
 use mathlib.Core.List.{List, [], _∷_, _++_}
 use Prim.Native.Nat.{ℕ}
 use lib.Dec.{eqb}
-use lib.ListN.{length, getD, take}
+use lib.ListN.{take}
 use Rattle.laws.specs.Says.{pick}
 use Rattle.laws.specs.Index.{allBelow, anyBelow, lastBelow, picks, tab, pad, joined}
 use Rattle.laws.specs.Lists.{every, isIn, repeats}
 use Rattle.laws.specs.Numbers.{sameUnder}
 use Rattle.laws.specs.Octets.{beFrom}
 use Rattle.filter.specs.declared.component.Filter.{Filter}
-use Rattle.filter.specs.Build.{Component, protocol, bare, excluded, added, built, emptyFilter}
+use Rattle.filter.specs.Build.{protocol, bare, excluded, added, built, emptyFilter}
 use Rattle.filter.specs.declared.packet.Header.{Header}
 use Rattle.filter.specs.Coding.{held, wellCoded, emptyPlace, uplink}
 use Rattle.filter.specs.Fit.{validHeader, agreesTransport, agreesNetwork, fits}

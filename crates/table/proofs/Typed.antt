@@ -1,6 +1,4 @@
 -- What the declared types tell: a table has eleven bearers of sixteen places, every number in its type's range.
-use Prim.Native.Nat.{ℕ, _^_, _<_}
-use Rattle.laws.specs.Lists.{Each}
 use Rattle.laws.proofs.Typed.{Tells, array-tells}
 use Rattle.filter.specs.Ranges.{FilterInRange}
 use Rattle.filter.proofs.Typed.{filter-in-range}

@@ -1,5 +1,5 @@
 -- A table as the code's types hold it: eleven bearers of sixteen places, every number in its type's range.
-use Prim.Native.Nat.{ℕ, _^_, _<_}
+use Prim.Native.Nat.{_^_, _<_}
 use Rattle.laws.specs.Lists.{Each}
 use Rattle.filter.specs.Ranges.{FilterInRange}
 use Rattle.table.specs.declared.bearer.Role.{Role}

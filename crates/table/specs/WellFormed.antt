@@ -1,9 +1,9 @@
 -- "A table is well formed if all that holds, idle bearers hold nothing, unused fields are zero, precedences are distinct within a connection,
 -- and each filter is well coded .. and fits some packet."
 use mathlib.Core.Path.{_≡_}
-use Prim.Native.Nat.{ℕ, zero, suc, _≤_, _<_}
+use Prim.Native.Nat.{ℕ, _≤_, _<_}
 use mathlib.Core.Bool.{Bool, true, not, _&&_, _||_}
-use mathlib.Core.List.{List, [], _∷_, _++_}
+use mathlib.Core.List.{List, [], _∷_}
 use lib.Dec.{eqb, leb}
 use Rattle.laws.specs.Says.{pick}
 use Rattle.laws.specs.Index.{imp, allBelow, joined}

@@ -1,19 +1,17 @@
 -- `calls::lay::losses` meets its contract: a bearer's row is looked through where it is of the connection; elsewhere it loses nothing.
 -- Assumes nothing.
 use mathlib.Core.Path.{_≡_, sym, _∙_, ap}
-use mathlib.Core.Bool.{Bool, false}
-use mathlib.Core.List.{List}
+use mathlib.Core.Bool.{false}
 use mathlib.Core.Logic.{⊎-elim}
-use Prim.Native.Nat.{_≤_, _-_, _+_}
+use Prim.Native.Nat.{_≤_, _-_}
 use native.Mathlib.Omega.{arith}
 use lib.Dec.{eqb}
 use lib.ListN.{replicate, length-replicate, getD-replicate}
-use Rattle.laws.proofs.Index.{stored, stored-start, stored-more, stored-done}
+use Rattle.laws.proofs.Index.{stored-skip, stored, stored-start, stored-more, stored-done}
 use Rattle.table.specs.declared.bearer.Role.{Role}
 use Rattle.table.specs.Bearers.{connectionOf, bearerCount}
 use Rattle.calls.specs.Steps.{ofConnection}
 use Rattle.calls.specs.Lay.{losesAt}
-use Rattle.calls.proofs.Rows.{stored-skip}
 use Rattle.calls.proofs.Conflicts.{role-at, mine-loses, other-loses}
 use borrow.Author.Needs.{needs}
 use Rattle.calls.proofs.lay.losses.Statement.{statement}

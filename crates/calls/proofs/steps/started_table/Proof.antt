@@ -1,16 +1,11 @@
 -- `calls::steps::started_table` meets its contract: the bearer at the index is the view's, and the others are as they stand.
 -- Assumes nothing.
-use mathlib.Core.Path.{_≡_, refl, sym, _∙_, ap}
-use mathlib.Core.Bool.{Bool, true, false}
-use mathlib.Core.List.{List}
+use mathlib.Core.Path.{_≡_, refl}
 use Prim.Native.Nat.{ℕ, _<_}
 use native.Mathlib.Omega.{arith}
-use lib.Dec.{eqb}
 use Rattle.laws.proofs.Says.{says-eq, says-no}
-use Rattle.table.specs.declared.bearer.Role.{Role}
-use Rattle.table.specs.declared.bearer.Bearer.{Bearer}
 use Rattle.table.specs.declared.bearer.Table.{Table}
-use Rattle.table.specs.Bearers.{bearerAt, bearerOf, roleAt, transactionAt, bearerCount}
+use Rattle.table.specs.Bearers.{bearerAt, bearerOf, roleAt, bearerCount}
 use Rattle.table.specs.Ranges.{TableInRange}
 use Rattle.table.proofs.Typed.{table-in-range}
 use Rattle.calls.specs.Steps.{startedView}
