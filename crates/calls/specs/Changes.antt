@@ -138,6 +138,7 @@ Brings bearer value o operation = (readElement value .answer ≡ Filters operati
 
 pub record Notes (t : Table) (bearer : ℕ) (value : List ℕ) (o : Outcome) : Type 0 where
   -- then the list is exactly the dedicated bearers of the connection that lose a filter, the named one included ..
-  pub listed : (operation : SetOperation) → Brings bearer value o operation → Lists (Loses t bearer (readElement value .filters) (creates operation)) (o .reply .follow)
+  pub listed : (operation : SetOperation) → Brings bearer value o operation
+      → Lists (Loses t bearer (readElement value .filters) (creates operation)) (o .reply .follow)
   -- .. and else nobody
   pub none : ((operation : SetOperation) → Brings bearer value o operation → ⊥) → o .reply .follow ≡ followOf []

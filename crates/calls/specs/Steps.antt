@@ -13,7 +13,8 @@ use Rattle.table.specs.declared.bearer.Role.the-variants.{Idle, Default, Dedica
 use Rattle.table.specs.declared.bearer.Table.{Table}
 use Rattle.filter.specs.Sizes.{placeCount}
 use Rattle.filter.specs.Build.{emptyFilter}
-use Rattle.table.specs.Bearers.{bearerCount, lastTransaction, indexOf, identityOf, bearerAt, inRow, roleAt, transactionAt, filterAt, View, build, roleOf, connectionAt}
+use Rattle.table.specs.Bearers.{bearerCount, lastTransaction, indexOf, identityOf, bearerAt, inRow, roleAt}
+use Rattle.table.specs.Bearers.{transactionAt, filterAt, View, build, roleOf, connectionAt}
 
 -- ---- transactions
 unfoldable pub opensAt : Table → ℕ → ℕ → Bool

@@ -16,7 +16,8 @@ use Rattle.table.specs.declared.bearer.Role.the-variants.{Idle, Default,
 use Rattle.table.specs.declared.bearer.Table.{Table}
 use Rattle.filter.specs.Sizes.{placeCount}
 use Rattle.filter.specs.Build.{emptyFilter}
-use Rattle.table.specs.Bearers.{firstIdentity, lastIdentity, bearerCount, lastTransaction, indexOf, identityOf, bearerAt, inRow, roleAt, transactionAt, View, view, isIdle, isDefault, roleOf, connectionOf, connectionAt}
+use Rattle.table.specs.Bearers.{firstIdentity, lastIdentity, bearerCount, lastTransaction, indexOf, identityOf, bearerAt, inRow}
+use Rattle.table.specs.Bearers.{roleAt, transactionAt, View, view, isIdle, isDefault, roleOf, connectionOf, connectionAt}
 
 -- ---- The test, one bearer at a time
 -- "dedicated and linked to an active default"
@@ -83,7 +84,8 @@ pub record Well (v : View) : Type 0 where
   pub silent : (i : ℕ) → i < bearerCount → v .role i ≡ Idle → v .transaction i ≡ 0
   pub empty : (i j : ℕ) → i < bearerCount → j < placeCount → v .role i ≡ Idle → v .filter i j ≡ emptyFilter
   -- a dedicated bearer is linked to an active default
-  pub linked : (i link : ℕ) → i < bearerCount → v .role i ≡ Dedicated link → (firstIdentity ≤ link) × (link ≤ lastIdentity) × (v .role (indexOf link) ≡ Default)
+  pub linked : (i link : ℕ) → i < bearerCount → v .role i ≡ Dedicated link
+      → (firstIdentity ≤ link) × (link ≤ lastIdentity) × (v .role (indexOf link) ≡ Default)
   -- transactions are at most 254, and each is open on one bearer
   pub small : (i : ℕ) → i < bearerCount → v .transaction i ≤ lastTransaction
   pub single : (i k : ℕ) → i < bearerCount → k < bearerCount → (v .transaction i ≡ 0 → ⊥) → v .transaction i ≡ v .transaction k → i ≡ k

@@ -15,7 +15,11 @@ use Rattle.calls.specs.Lay.{Standing}
 -- what stands where a bearer may be gone
 abbrev pub cutBearer : Bool → Bearer → Bearer
 cutBearer gone b =
-    record { role = pick gone Idle (b .role); transaction = pick gone 0 (b .transaction); row = tab (λ j. pick gone emptyFilter (inRow (b .row) j)) placeCount }
+    record {
+      role = pick gone Idle (b .role);
+      transaction = pick gone 0 (b .transaction);
+      row = tab (λ j. pick gone emptyFilter (inRow (b .row) j)) placeCount;
+    }
 
 -- a bearer that stands so, as the inner functions take it: whether it is the named one, whether it is of the connection
 abbrev pub so : Bool → Bool → Standing
