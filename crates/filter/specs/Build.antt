@@ -5,11 +5,17 @@ use mathlib.Core.List.{List, [], _∷_}
 use lib.Dec.{ltb}
 use Rattle.laws.specs.Says.{pick}
 use Rattle.filter.specs.declared.component.Address.{Address}
+use Rattle.filter.specs.declared.component.RemoteAddress.{RemoteAddress}
 use Rattle.filter.specs.declared.component.RemoteAddress.the-variants.{Absent as noAddress, V4, V6}
+use Rattle.filter.specs.declared.component.Protocol.{Protocol}
 use Rattle.filter.specs.declared.component.Protocol.the-variants.{Absent as noProtocol, Is as isProtocol}
+use Rattle.filter.specs.declared.component.Port.{Port}
 use Rattle.filter.specs.declared.component.Port.the-variants.{Absent as noPort, Is as isPort, Range}
+use Rattle.filter.specs.declared.component.Index.{Index}
 use Rattle.filter.specs.declared.component.Index.the-variants.{Absent as noIndex, Is as isIndex}
+use Rattle.filter.specs.declared.component.Class.{Class}
 use Rattle.filter.specs.declared.component.Class.the-variants.{Absent as noClass, Masked}
+use Rattle.filter.specs.declared.component.Label.{Label}
 use Rattle.filter.specs.declared.component.Label.the-variants.{Absent as noLabel, Is as isLabel}
 use Rattle.filter.specs.declared.component.Filter.{Filter}
 use Rattle.filter.specs.Component.{largestLabel, addressType, protocolType, localType, remoteType, indexType, classType, labelType, excludes}
@@ -58,18 +64,117 @@ bare precedence direction =
 abbrev pub emptyFilter : Filter
 emptyFilter = bare 0 0
 
--- the filter with the component in its place, whatever stood there
+-- ---- The filter with one kind of component set, whatever stood there
+abbrev pub withAddress : RemoteAddress → Filter → Filter
+withAddress x f =
+    record {
+      precedence = f .precedence;
+      direction = f .direction;
+      address = x;
+      protocol = f .protocol;
+      local = f .local;
+      remote = f .remote;
+      index = f .index;
+      class = f .class;
+      label = f .label;
+    }
+
+abbrev pub withProtocol : Protocol → Filter → Filter
+withProtocol x f =
+    record {
+      precedence = f .precedence;
+      direction = f .direction;
+      address = f .address;
+      protocol = x;
+      local = f .local;
+      remote = f .remote;
+      index = f .index;
+      class = f .class;
+      label = f .label;
+    }
+
+abbrev pub withLocal : Port → Filter → Filter
+withLocal x f =
+    record {
+      precedence = f .precedence;
+      direction = f .direction;
+      address = f .address;
+      protocol = f .protocol;
+      local = x;
+      remote = f .remote;
+      index = f .index;
+      class = f .class;
+      label = f .label;
+    }
+
+abbrev pub withRemote : Port → Filter → Filter
+withRemote x f =
+    record {
+      precedence = f .precedence;
+      direction = f .direction;
+      address = f .address;
+      protocol = f .protocol;
+      local = f .local;
+      remote = x;
+      index = f .index;
+      class = f .class;
+      label = f .label;
+    }
+
+abbrev pub withIndex : Index → Filter → Filter
+withIndex x f =
+    record {
+      precedence = f .precedence;
+      direction = f .direction;
+      address = f .address;
+      protocol = f .protocol;
+      local = f .local;
+      remote = f .remote;
+      index = x;
+      class = f .class;
+      label = f .label;
+    }
+
+abbrev pub withClass : Class → Filter → Filter
+withClass x f =
+    record {
+      precedence = f .precedence;
+      direction = f .direction;
+      address = f .address;
+      protocol = f .protocol;
+      local = f .local;
+      remote = f .remote;
+      index = f .index;
+      class = x;
+      label = f .label;
+    }
+
+abbrev pub withLabel : Label → Filter → Filter
+withLabel x f =
+    record {
+      precedence = f .precedence;
+      direction = f .direction;
+      address = f .address;
+      protocol = f .protocol;
+      local = f .local;
+      remote = f .remote;
+      index = f .index;
+      class = f .class;
+      label = x;
+    }
+
+-- the filter with the component in its place
 abbrev pub put : Component → Filter → Filter
-put (ipv4Remote address mask) f = record { precedence = f .precedence; direction = f .direction; address = V4 address mask; protocol = f .protocol; local = f .local; remote = f .remote; index = f .index; class = f .class; label = f .label }
-put (ipv6Remote address mask) f = record { precedence = f .precedence; direction = f .direction; address = V6 address mask; protocol = f .protocol; local = f .local; remote = f .remote; index = f .index; class = f .class; label = f .label }
-put (protocol x) f = record { precedence = f .precedence; direction = f .direction; address = f .address; protocol = isProtocol x; local = f .local; remote = f .remote; index = f .index; class = f .class; label = f .label }
-put (localPort x) f = record { precedence = f .precedence; direction = f .direction; address = f .address; protocol = f .protocol; local = isPort x; remote = f .remote; index = f .index; class = f .class; label = f .label }
-put (localRange low high) f = record { precedence = f .precedence; direction = f .direction; address = f .address; protocol = f .protocol; local = Range low high; remote = f .remote; index = f .index; class = f .class; label = f .label }
-put (remotePort x) f = record { precedence = f .precedence; direction = f .direction; address = f .address; protocol = f .protocol; local = f .local; remote = isPort x; index = f .index; class = f .class; label = f .label }
-put (remoteRange low high) f = record { precedence = f .precedence; direction = f .direction; address = f .address; protocol = f .protocol; local = f .local; remote = Range low high; index = f .index; class = f .class; label = f .label }
-put (index x) f = record { precedence = f .precedence; direction = f .direction; address = f .address; protocol = f .protocol; local = f .local; remote = f .remote; index = isIndex x; class = f .class; label = f .label }
-put (class x mask) f = record { precedence = f .precedence; direction = f .direction; address = f .address; protocol = f .protocol; local = f .local; remote = f .remote; index = f .index; class = Masked x mask; label = f .label }
-put (label x) f = record { precedence = f .precedence; direction = f .direction; address = f .address; protocol = f .protocol; local = f .local; remote = f .remote; index = f .index; class = f .class; label = isLabel x }
+put (ipv4Remote address mask) f = withAddress (V4 address mask) f
+put (ipv6Remote address mask) f = withAddress (V6 address mask) f
+put (protocol x) f = withProtocol (isProtocol x) f
+put (localPort x) f = withLocal (isPort x) f
+put (localRange low high) f = withLocal (Range low high) f
+put (remotePort x) f = withRemote (isPort x) f
+put (remoteRange low high) f = withRemote (Range low high) f
+put (index x) f = withIndex (isIndex x) f
+put (class x mask) f = withClass (Masked x mask) f
+put (label x) f = withLabel (isLabel x) f
 
 -- "the type is held already, is excluded by one held"
 unfoldable pub excluded : Filter → ℕ → Bool
