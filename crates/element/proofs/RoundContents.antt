@@ -29,7 +29,7 @@ use Rattle.filter.specs.declared.component.Class.the-variants.{Absent as noClas
 use Rattle.filter.specs.declared.component.Label.{Label}
 use Rattle.filter.specs.declared.component.Label.the-variants.{Absent as noLabel, Is as isLabel}
 use Rattle.filter.specs.declared.component.Filter.{Filter}
-use Rattle.filter.specs.Component.{addressType, protocolType, portType, indexType, classType, excludes, largestLabel}
+use Rattle.filter.specs.Component.{typeOfAddress, typeOfProtocol, typeOfPort, typeOfIndex, typeOfClass, excludes, largestLabel}
 use Rattle.filter.specs.Coding.{held, labelFits, wellCoded}
 use Rattle.filter.specs.Build.{Component, ipv4Remote, ipv6Remote, protocol, localPort, localRange, remotePort, remoteRange, index, class, label, typeOf, bare, put, excluded, tooLarge, added}
 use Rattle.filter.specs.Ranges.{AddressInRange, RemoteInRange, ProtocolInRange, PortInRange, IndexInRange, ClassInRange, FilterInRange}
@@ -71,27 +71,27 @@ address-round : (a : Address) → AddressInRange a → addressOf (addressBytes a
 address-round a r = rw (pair-first 8 (a .high) (a .low) (r .high), pair-second 8 (a .high) (a .low) (r .low))
 
 -- ---- a type excludes none of another family
-address-apart : (t : ℕ) → excludes t 0 ≡ false → excludes t 0x10 ≡ false → (a : RemoteAddress) → excludes t (addressType a) ≡ false
-address-apart t none one noAddress = none
-address-apart t none one (V4 a mask) = one
-address-apart t none one (V6 a mask) = one
+address-apart : (t : ℕ) → excludes t 0x10 ≡ false → (a : RemoteAddress) → excludes t (typeOfAddress a) ≡ false
+address-apart t one noAddress = refl
+address-apart t one (V4 a mask) = one
+address-apart t one (V6 a mask) = one
 
-protocol-apart : (t : ℕ) → excludes t 0 ≡ false → excludes t 0x30 ≡ false → (p : Protocol) → excludes t (protocolType p) ≡ false
-protocol-apart t none one noProtocol = none
-protocol-apart t none one (isProtocol x) = one
+protocol-apart : (t : ℕ) → excludes t 0x30 ≡ false → (p : Protocol) → excludes t (typeOfProtocol p) ≡ false
+protocol-apart t one noProtocol = refl
+protocol-apart t one (isProtocol x) = one
 
-port-apart : (t u v : ℕ) → excludes t 0 ≡ false → excludes t u ≡ false → excludes t v ≡ false → (p : Port) → excludes t (portType u v p) ≡ false
-port-apart t u v none one two noPort = none
-port-apart t u v none one two (isPort x) = one
-port-apart t u v none one two (Range low high) = two
+port-apart : (t u v : ℕ) → excludes t u ≡ false → excludes t v ≡ false → (p : Port) → excludes t (typeOfPort u v p) ≡ false
+port-apart t u v one two noPort = refl
+port-apart t u v one two (isPort x) = one
+port-apart t u v one two (Range low high) = two
 
-index-apart : (t : ℕ) → excludes t 0 ≡ false → excludes t 0x60 ≡ false → (i : Index) → excludes t (indexType i) ≡ false
-index-apart t none one noIndex = none
-index-apart t none one (isIndex x) = one
+index-apart : (t : ℕ) → excludes t 0x60 ≡ false → (i : Index) → excludes t (typeOfIndex i) ≡ false
+index-apart t one noIndex = refl
+index-apart t one (isIndex x) = one
 
-class-apart : (t : ℕ) → excludes t 0 ≡ false → excludes t 0x70 ≡ false → (c : Class) → excludes t (classType c) ≡ false
-class-apart t none one noClass = none
-class-apart t none one (Masked x mask) = one
+class-apart : (t : ℕ) → excludes t 0x70 ≡ false → (c : Class) → excludes t (typeOfClass c) ≡ false
+class-apart t one noClass = refl
+class-apart t one (Masked x mask) = one
 
 -- ---- each kind, after those of lower types
 module _ (precedence direction : ℕ) where
@@ -116,12 +116,12 @@ module _ (precedence direction : ℕ) where
   unfolding lengthOf componentOf excluded
   at-protocol a noProtocol h = λ rest. refl
   at-protocol a (isProtocol x) h =
-      read-component _ (protocol x) (beBytes 1 x) refl (length-be 1 x) (rw (be-round 1 x h)) refl (rw (address-apart 0x30 refl refl a))
+      read-component _ (protocol x) (beBytes 1 x) refl (length-be 1 x) (rw (be-round 1 x h)) refl (rw (address-apart 0x30 refl a))
 
   -- a range's type excludes what the port's does
   local-free : (a : RemoteAddress) (p : Protocol) → excluded (with a p noPort noPort noIndex noClass noLabel) 0x40 ≡ false
   unfolding excluded
-  local-free a p = rw (address-apart 0x40 refl refl a, protocol-apart 0x40 refl refl p)
+  local-free a p = rw (address-apart 0x40 refl a, protocol-apart 0x40 refl p)
 
   at-local : (a : RemoteAddress) (p : Protocol) (l : Port) → PortInRange l
       → Reads (with a p noPort noPort noIndex noClass noLabel) (portOctets 0x40 0x41 l) (with a p l noPort noIndex noClass noLabel)
@@ -135,7 +135,7 @@ module _ (precedence direction : ℕ) where
 
   remote-free : (a : RemoteAddress) (p : Protocol) (l : Port) → excluded (with a p l noPort noIndex noClass noLabel) 0x50 ≡ false
   unfolding excluded
-  remote-free a p l = rw (address-apart 0x50 refl refl a, protocol-apart 0x50 refl refl p, port-apart 0x50 0x40 0x41 refl refl refl l)
+  remote-free a p l = rw (address-apart 0x50 refl a, protocol-apart 0x50 refl p, port-apart 0x50 0x40 0x41 refl refl l)
 
   at-remote : (a : RemoteAddress) (p : Protocol) (l r : Port) → PortInRange r
       → Reads (with a p l noPort noIndex noClass noLabel) (portOctets 0x50 0x51 r) (with a p l r noIndex noClass noLabel)
@@ -154,10 +154,10 @@ module _ (precedence direction : ℕ) where
   at-index a p l r (isIndex x) h =
       read-component _ (index x) (beBytes 4 x) refl (length-be 4 x) (rw (be-round 4 x h)) refl
       (rw (
-        address-apart 0x60 refl refl a,
-        protocol-apart 0x60 refl refl p,
-        port-apart 0x60 0x40 0x41 refl refl refl l,
-        port-apart 0x60 0x50 0x51 refl refl refl r,
+        address-apart 0x60 refl a,
+        protocol-apart 0x60 refl p,
+        port-apart 0x60 0x40 0x41 refl refl l,
+        port-apart 0x60 0x50 0x51 refl refl r,
       ))
 
   at-class : (a : RemoteAddress) (p : Protocol) (l r : Port) (i : Index) (c : Class) → ClassInRange c
@@ -168,11 +168,11 @@ module _ (precedence direction : ℕ) where
       read-component _ (class x mask) (beBytes 1 x ++ beBytes 1 mask) refl (pair-long 1 x mask)
       (rw (pair-first 1 x mask (h .0), pair-second 1 x mask (h .1))) refl
       (rw (
-        address-apart 0x70 refl refl a,
-        protocol-apart 0x70 refl refl p,
-        port-apart 0x70 0x40 0x41 refl refl refl l,
-        port-apart 0x70 0x50 0x51 refl refl refl r,
-        index-apart 0x70 refl refl i,
+        address-apart 0x70 refl a,
+        protocol-apart 0x70 refl p,
+        port-apart 0x70 0x40 0x41 refl refl l,
+        port-apart 0x70 0x50 0x51 refl refl r,
+        index-apart 0x70 refl i,
       ))
 
   -- of the label's three octets, the low 20 bits are all that it has
@@ -185,12 +185,12 @@ module _ (precedence direction : ℕ) where
       read-component _ (label x) (beBytes 3 x) refl (length-be 3 x) (rw (be-round 3 x (omega arith), mod-eq-of-lt {n = x} {m = 2 ^ 20} (omega arith)))
       (le-ltb largestLabel x small)
       (rw (
-        address-apart 0x80 refl refl a,
-        protocol-apart 0x80 refl refl p,
-        port-apart 0x80 0x40 0x41 refl refl refl l,
-        port-apart 0x80 0x50 0x51 refl refl refl r,
-        index-apart 0x80 refl refl i,
-        class-apart 0x80 refl refl c,
+        address-apart 0x80 refl a,
+        protocol-apart 0x80 refl p,
+        port-apart 0x80 0x40 0x41 refl refl l,
+        port-apart 0x80 0x50 0x51 refl refl r,
+        index-apart 0x80 refl i,
+        class-apart 0x80 refl c,
       ))
 
 -- ---- the whole contents

@@ -19,34 +19,34 @@ use Rattle.filter.specs.declared.component.Class.the-variants.{Absent as
 use Rattle.filter.specs.declared.component.Label.{Label}
 use Rattle.filter.specs.declared.component.Label.the-variants.{Absent as noLabel, Is as isLabel}
 use Rattle.filter.specs.declared.component.Filter.{Filter}
-use Rattle.filter.specs.Component.{addressType, protocolType, portType, localType, remoteType, indexType, classType, labelType, present}
+use Rattle.filter.specs.Component.{localPortType, localRangeType, remotePortType, remoteRangeType, typeOfAddress, typeOfProtocol, typeOfPort, typeOfLocal, typeOfRemote, typeOfIndex, typeOfClass, typeOfLabel, present}
 use Rattle.filter.specs.Coding.{held, emptyPlace}
 use Rattle.filter.specs.Build.{bare}
 
-no-address : (a : RemoteAddress) → present (addressType a) ≡ false → a ≡ noAddress
+no-address : (a : RemoteAddress) → present (typeOfAddress a) ≡ false → a ≡ noAddress
 no-address noAddress e = refl
 no-address (V4 a mask) e = absurd (false≢true (cc))
 no-address (V6 a mask) e = absurd (false≢true (cc))
 
-no-protocol : (p : Protocol) → present (protocolType p) ≡ false → p ≡ noProtocol
+no-protocol : (p : Protocol) → present (typeOfProtocol p) ≡ false → p ≡ noProtocol
 no-protocol noProtocol e = refl
 no-protocol (isProtocol x) e = absurd (false≢true (cc))
 
 -- one and range are the port's types
-no-port : (one range : ℕ) → present one ≡ true → present range ≡ true → (p : Port) → present (portType one range p) ≡ false → p ≡ noPort
+no-port : (one range : ℕ) → present one ≡ true → present range ≡ true → (p : Port) → present (typeOfPort one range p) ≡ false → p ≡ noPort
 no-port one range o r noPort e = refl
 no-port one range o r (isPort x) e = absurd (false≢true (cc))
 no-port one range o r (Range low high) e = absurd (false≢true (cc))
 
-no-index : (i : Index) → present (indexType i) ≡ false → i ≡ noIndex
+no-index : (i : Index) → present (typeOfIndex i) ≡ false → i ≡ noIndex
 no-index noIndex e = refl
 no-index (isIndex x) e = absurd (false≢true (cc))
 
-no-class : (c : Class) → present (classType c) ≡ false → c ≡ noClass
+no-class : (c : Class) → present (typeOfClass c) ≡ false → c ≡ noClass
 no-class noClass e = refl
 no-class (Masked x mask) e = absurd (false≢true (cc))
 
-no-label : (l : Label) → present (labelType l) ≡ false → l ≡ noLabel
+no-label : (l : Label) → present (typeOfLabel l) ≡ false → l ≡ noLabel
 no-label noLabel e = refl
 no-label (isLabel x) e = absurd (false≢true (cc))
 
@@ -54,19 +54,20 @@ no-label (isLabel x) e = absurd (false≢true (cc))
 pub unheld-bare : (f : Filter) → held f ≡ false → f ≡ bare (f .precedence) (f .direction)
 unfolding held
 unheld-bare f e =
-    let label = neither _ _ e in
-    let class = neither _ _ (label .0) in
-    let index = neither _ _ (class .0) in
-    let remote = neither _ _ (index .0) in
-    let local = neither _ _ (remote .0) in
-    let first = neither _ _ (local .0) in
-    let a = no-address (f .address) (first .0) in
-    let p = no-protocol (f .protocol) (first .1) in
-    let l = no-port 0x40 0x41 refl refl (f .local) (local .1) in
-    let r = no-port 0x50 0x51 refl refl (f .remote) (remote .1) in
-    let i = no-index (f .index) (index .1) in
-    let c = no-class (f .class) (class .1) in
-    let b = no-label (f .label) (label .1) in
+    let address = neither _ _ e in
+    let protocol = neither _ _ (address .1) in
+    let local = neither _ _ (protocol .1) in
+    let remote = neither _ _ (local .1) in
+    let index = neither _ _ (remote .1) in
+    let class = neither _ _ (index .1) in
+    let label = neither _ _ (class .1) in
+    let a = no-address (f .address) (address .0) in
+    let p = no-protocol (f .protocol) (protocol .0) in
+    let l = no-port localPortType localRangeType refl refl (f .local) (local .0) in
+    let r = no-port remotePortType remoteRangeType refl refl (f .remote) (remote .0) in
+    let i = no-index (f .index) (index .0) in
+    let c = no-class (f .class) (class .0) in
+    let b = no-label (f .label) (label .0) in
     λ k.
     record {
       precedence = f .precedence;

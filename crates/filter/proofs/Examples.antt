@@ -15,6 +15,10 @@ use Rattle.filter.specs.Fittable.{sample, fittable}
 abbrev with : List Component → Filter
 with cs = built (bare 10 3) cs
 
+-- a component of each kind
+abbrev full : Filter
+full = with (ipv4Remote 0 0 ∷ protocol 17 ∷ localPort 5 ∷ remotePort 5060 ∷ index 7 ∷ class 0 0 ∷ label 5 ∷ [])
+
 -- 192.0.2.1, or the IPv6 address C000:0201::
 abbrev packet : ℕ → ℕ → ℕ → ℕ → Header
 packet v p r l =
@@ -77,6 +81,12 @@ examples : every (
     ∷ not (excluded (with (localPort 5 ∷ [])) 0x50)
     ∷ excluded (with (localPort 5 ∷ [])) 0x41
     ∷ excluded (with (ipv4Remote 0 0 ∷ [])) 0x20
+    -- 0 is no type: a filter without a component does not exclude it, nor does one with each kind
+    ∷ not (excluded (bare 10 3) 0)
+    ∷ not (excluded full 0)
+    ∷ excluded full 0x80
+    -- and a type that no component has is not excluded
+    ∷ not (excluded full 0x42)
     ∷ uplink (bare 0 2)
     ∷ not (uplink (bare 0 1))
     ∷ [])

@@ -22,7 +22,7 @@ use Rattle.filter.specs.declared.component.Class.{Class}
 use Rattle.filter.specs.declared.component.Class.the-variants.{Absent as noClass, Masked}
 use Rattle.filter.specs.declared.component.Label.{Label}
 use Rattle.filter.specs.declared.component.Label.the-variants.{Absent as noLabel, Is as isLabel}
-use Rattle.filter.specs.Component.{portType, indexType, present}
+use Rattle.filter.specs.Component.{typeOfPort, typeOfIndex, present}
 use Rattle.filter.specs.Fit.{validAt, carriesPorts, carriesIndex, firstFour, agreesAddress, agreesProtocol, agreesPort, agreesIndex, agreesClass, agreesLabel}
 use Rattle.filter.specs.Fittable.{sampleVersion, sampleAddress, sampleProtocol, samplePort, sampleIndex, sampleClass, sampleLabel}
 
@@ -90,24 +90,24 @@ protocol-right noProtocol false false x e p i =
 
 -- ---- the ports, the index and the class
 -- a port that is there and agrees is one of a protocol that carries ports; one and range are its types
-pub port-wants : (one range : ℕ) (c : Port) (protocol port : ℕ) → agreesPort c protocol port ≡ true → present (portType one range c) ≡ true
+pub port-wants : (one range : ℕ) (c : Port) (protocol port : ℕ) → agreesPort c protocol port ≡ true → present (typeOfPort one range c) ≡ true
     → carriesPorts protocol ≡ true
 port-wants one range noPort protocol port e t = absurd (false≢true t)
 port-wants one range (isPort x) protocol port e t = both (carriesPorts protocol) (eqb x port) e .0
 port-wants one range (Range low high) protocol port e t = both (carriesPorts protocol) (within low high port) e .0
 
 pub port-right : (one range : ℕ) → present one ≡ true → present range ≡ true → (c : Port) (protocol port s : ℕ) → agreesPort c protocol port ≡ true
-    → (present (portType one range c) ≡ true → carriesPorts s ≡ true) → agreesPort c s (samplePort c) ≡ true
+    → (present (typeOfPort one range c) ≡ true → carriesPorts s ≡ true) → agreesPort c s (samplePort c) ≡ true
 port-right one range o r noPort protocol port s e w = refl
 port-right one range o r (isPort x) protocol port s e w = rw (w o) (same x)
 port-right one range o r (Range low high) protocol port s e w =
     rw (w r) (within-low low high port (both (carriesPorts protocol) (within low high port) e .1))
 
-pub index-wants : (c : Index) (protocol index : ℕ) → agreesIndex c protocol index ≡ true → present (indexType c) ≡ true → carriesIndex protocol ≡ true
+pub index-wants : (c : Index) (protocol index : ℕ) → agreesIndex c protocol index ≡ true → present (typeOfIndex c) ≡ true → carriesIndex protocol ≡ true
 index-wants noIndex protocol index e t = absurd (false≢true t)
 index-wants (isIndex x) protocol index e t = both (carriesIndex protocol) (eqb x index) e .0
 
-pub index-right : (c : Index) (s : ℕ) → (present (indexType c) ≡ true → carriesIndex s ≡ true) → agreesIndex c s (sampleIndex c) ≡ true
+pub index-right : (c : Index) (s : ℕ) → (present (typeOfIndex c) ≡ true → carriesIndex s ≡ true) → agreesIndex c s (sampleIndex c) ≡ true
 index-right noIndex s w = refl
 index-right (isIndex x) s w = rw (w refl) (same x)
 

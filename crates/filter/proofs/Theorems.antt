@@ -2,12 +2,13 @@
 use mathlib.Core.Path.{_≡_, refl, sym, _∙_}
 use mathlib.Core.Bool.{Bool, true, false, _&&_, _||_}
 use mathlib.Core.List.{List, [], _∷_}
-use mathlib.Core.Logic.{⊎-elim}
+use mathlib.Core.Logic.{_⊎_, inl, inr, ⊎-elim}
 use Prim.Native.Nat.{ℕ, _+_, _*_, _^_, _<_, _≤_}
 use native.Mathlib.Omega.{arith}
 use lib.Dec.{leb, ltb}
 use borrow.Author.Tests.{le-leb, ltb-false}
 use Rattle.laws.specs.Says.{pick, Says}
+use Rattle.laws.proofs.Says.{says-so}
 use Rattle.laws.proofs.Tests.{both, either, or-left, or-right, neither}
 use Rattle.filter.specs.declared.component.Address.{Address}
 use Rattle.filter.specs.declared.component.RemoteAddress.{RemoteAddress}
@@ -24,12 +25,14 @@ use Rattle.filter.specs.declared.component.Label.{Label}
 use Rattle.filter.specs.declared.component.Label.the-variants.{Absent as noLabel, Is as isLabel}
 use Rattle.filter.specs.declared.component.Filter.{Filter}
 use Rattle.filter.specs.declared.packet.Header.{Header}
-use Rattle.filter.specs.Component.{localType, remoteType, indexType, present, largestLabel}
+use Rattle.filter.specs.Component.{localPortType, localRangeType, remotePortType, remoteRangeType, typeOfLocal, typeOfRemote, typeOfIndex, present, largestLabel}
 use Rattle.filter.specs.Coding.{held, labelFits, wellCoded}
 use Rattle.filter.specs.Build.{Component, ipv4Remote, ipv6Remote, protocol, localPort, localRange, remotePort, remoteRange, index, class, label, typeOf, bare, put, excluded, tooLarge, added, built}
+use Rattle.filter.specs.Holding.{ExcludeEachOther, HeldOrExcluded}
 use Rattle.filter.specs.Fit.{validHeader, agreesAddress, agreesProtocol, agreesPort, agreesIndex, agreesClass, agreesLabel, agreesTransport, agreesNetwork, fits}
 use Rattle.filter.specs.Ranges.{AddressInRange, HeaderInRange, RemoteInRange, ProtocolInRange, PortInRange, IndexInRange, ClassInRange, LabelInRange, FilterInRange}
 use Rattle.filter.specs.Fittable.{sampleVersion, sampleAddress, sampleProtocol, samplePort, sampleIndex, sampleClass, sampleLabel, sample, fittable, SomePacketFits}
+use Rattle.filter.proofs.Holding.{HeldInFamily, excluded-in-family, same-or-apart, apart-kin}
 use Rattle.filter.proofs.Samples.{version-right, protocol-right, port-wants, port-right, index-wants, index-right, class-right}
 
 -- ---- A filter is told fittable exactly where some packet fits it.
@@ -121,17 +124,17 @@ unfolding fittable sample validHeader
 sampled f s =
     let h = s .header in
     let a = agree f h (s .agrees) in
-    let ports = present (localType (f .local)) || present (remoteType (f .remote)) in
+    let ports = present (typeOfLocal (f .local)) || present (typeOfRemote (f .remote)) in
     let v = version-right (f .address) (f .label) (h .version) (h .address) (h .label) (a .address) (a .label) (s .valid) in
-    let p = protocol-right (f .protocol) ports (present (indexType (f .index))) (h .protocol) (a .protocol)
-    (λ t. ⊎-elim (port-wants 0x40 0x41 (f .local) (h .protocol) (h .local) (a .local)) (port-wants 0x50 0x51 (f .remote) (h .protocol) (h .remote) (a .remote)) (either _ _ t))
+    let p = protocol-right (f .protocol) ports (present (typeOfIndex (f .index))) (h .protocol) (a .protocol)
+    (λ t. ⊎-elim (port-wants localPortType localRangeType (f .local) (h .protocol) (h .local) (a .local)) (port-wants remotePortType remoteRangeType (f .remote) (h .protocol) (h .remote) (a .remote)) (either _ _ t))
     (index-wants (f .index) (h .protocol) (h .index) (a .index)) in
     rw (v .valid)
     (fits-all f (sample f)
     (record {
       protocol = p .protocol;
-      local = port-right 0x40 0x41 refl refl (f .local) (h .protocol) (h .local) _ (a .local) (λ t. p .ports (or-left _ _ t));
-      remote = port-right 0x50 0x51 refl refl (f .remote) (h .protocol) (h .remote) _ (a .remote) (λ t. p .ports (or-right (present (localType (f .local))) _ t));
+      local = port-right localPortType localRangeType refl refl (f .local) (h .protocol) (h .local) _ (a .local) (λ t. p .ports (or-left _ _ t));
+      remote = port-right remotePortType remoteRangeType refl refl (f .remote) (h .protocol) (h .remote) _ (a .remote) (λ t. p .ports (or-right (present (typeOfLocal (f .local))) _ t));
       index = index-right (f .index) _ (p .index);
       address = v .address;
       class = class-right (f .class);
@@ -181,3 +184,18 @@ unfolding wellCoded
 built-well-coded precedence direction cs h d =
     let f = built (bare precedence direction) cs in
     rw (h, le-leb (f .direction) 3 d, label-built (bare precedence direction) cs refl)
+
+-- ---- A type is told excluded exactly where it is held already, or one held excludes it.
+pub excluded-says : (f : Filter) (t : ℕ) → Says (excluded f t) (HeldOrExcluded f t)
+excluded-says f t = says-so (excluded-in-family f t) there back
+  where
+    there : HeldInFamily f t → HeldOrExcluded f t
+    there h = by (same-or-apart t (h .other) (h .same))
+      where
+        by : (t ≡ h .other) ⊎ ExcludeEachOther t (h .other) → HeldOrExcluded f t
+        by (inl e) = inl (rw e (h .held))
+        by (inr a) = inr (record { other = h .other; held = h .held; apart = a })
+
+    back : HeldOrExcluded f t → HeldInFamily f t
+    back (inl h) = record { other = t; held = h; same = refl }
+    back (inr h) = record { other = h .other; held = h .held; same = apart-kin t (h .other) (h .apart) }

@@ -4,6 +4,7 @@ use mathlib.Core.Bool.{Bool, false, _||_}
 use mathlib.Core.List.{List, [], _∷_}
 use lib.Dec.{ltb}
 use Rattle.laws.specs.Says.{pick}
+use Rattle.laws.specs.Lists.{some}
 use Rattle.filter.specs.declared.component.Address.{Address}
 use Rattle.filter.specs.declared.component.RemoteAddress.{RemoteAddress}
 use Rattle.filter.specs.declared.component.RemoteAddress.the-variants.{Absent as noAddress, V4, V6}
@@ -18,7 +19,8 @@ use Rattle.filter.specs.declared.component.Class.the-variants.{Absent as
 use Rattle.filter.specs.declared.component.Label.{Label}
 use Rattle.filter.specs.declared.component.Label.the-variants.{Absent as noLabel, Is as isLabel}
 use Rattle.filter.specs.declared.component.Filter.{Filter}
-use Rattle.filter.specs.Component.{largestLabel, addressType, protocolType, localType, remoteType, indexType, classType, labelType, excludes}
+use Rattle.filter.specs.Component.{ipv4RemoteType, ipv6RemoteType, protocolType, localPortType, localRangeType, remotePortType, remoteRangeType}
+use Rattle.filter.specs.Component.{indexType, classType, labelType, largestLabel, typesOf, excludes}
 
 pub data Component : Type 0 where
   ipv4Remote : (address mask : ℕ) → Component
@@ -34,16 +36,16 @@ pub data Component : Type 0 where
 
 -- the first column of document 01's table
 abbrev pub typeOf : Component → ℕ
-typeOf (ipv4Remote address mask) = 0x10
-typeOf (ipv6Remote address mask) = 0x20
-typeOf (protocol x) = 0x30
-typeOf (localPort x) = 0x40
-typeOf (localRange low high) = 0x41
-typeOf (remotePort x) = 0x50
-typeOf (remoteRange low high) = 0x51
-typeOf (index x) = 0x60
-typeOf (class x mask) = 0x70
-typeOf (label x) = 0x80
+typeOf (ipv4Remote address mask) = ipv4RemoteType
+typeOf (ipv6Remote address mask) = ipv6RemoteType
+typeOf (protocol x) = protocolType
+typeOf (localPort x) = localPortType
+typeOf (localRange low high) = localRangeType
+typeOf (remotePort x) = remotePortType
+typeOf (remoteRange low high) = remoteRangeType
+typeOf (index x) = indexType
+typeOf (class x mask) = classType
+typeOf (label x) = labelType
 
 -- the filter without a component
 abbrev pub bare : ℕ → ℕ → Filter
@@ -178,9 +180,7 @@ put (label x) f = withLabel (isLabel x) f
 
 -- "the type is held already, is excluded by one held"
 unfoldable pub excluded : Filter → ℕ → Bool
-excluded f t =
-    excludes t (addressType (f .address)) || excludes t (protocolType (f .protocol)) || excludes t (localType (f .local)) || excludes t (remoteType (f .remote))
-    || excludes t (indexType (f .index)) || excludes t (classType (f .class)) || excludes t (labelType (f .label))
+excluded f t = some (excludes t) (typesOf f)
 
 -- "or is a flow label above 1048575"
 abbrev pub tooLarge : Component → Bool

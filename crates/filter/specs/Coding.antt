@@ -2,16 +2,15 @@
 use Prim.Native.Nat.{ℕ}
 use mathlib.Core.Bool.{Bool, true, not, _&&_, _||_}
 use lib.Dec.{eqb, leb}
+use Rattle.laws.specs.Lists.{some}
 use Rattle.filter.specs.declared.component.Label.{Label}
 use Rattle.filter.specs.declared.component.Label.the-variants.{Absent as noLabel, Is as isLabel}
 use Rattle.filter.specs.declared.component.Filter.{Filter}
-use Rattle.filter.specs.Component.{largestLabel, addressType, protocolType, localType, remoteType, indexType, classType, labelType, present}
+use Rattle.filter.specs.Component.{largestLabel, typesOf, present}
 
 -- "Contents hold at least one component": a filter that holds none is not held
 unfoldable pub held : Filter → Bool
-held f =
-    present (addressType (f .address)) || present (protocolType (f .protocol)) || present (localType (f .local)) || present (remoteType (f .remote))
-    || present (indexType (f .index)) || present (classType (f .class)) || present (labelType (f .label))
+held f = some present (typesOf f)
 
 abbrev pub labelFits : Label → Bool
 labelFits noLabel = true

@@ -18,7 +18,7 @@ use Rattle.filter.specs.declared.component.Label.{Label}
 use Rattle.filter.specs.declared.component.Label.the-variants.{Absent as noLabel, Is as isLabel}
 use Rattle.filter.specs.declared.component.Filter.{Filter}
 use Rattle.filter.specs.declared.packet.Header.{Header}
-use Rattle.filter.specs.Component.{localType, remoteType, indexType, present}
+use Rattle.filter.specs.Component.{typeOfLocal, typeOfRemote, typeOfIndex, present}
 use Rattle.filter.specs.Coding.{wellCoded, emptyPlace}
 use Rattle.filter.specs.Fit.{validHeader, fits}
 use Rattle.filter.specs.Ranges.{HeaderInRange}
@@ -69,7 +69,7 @@ sample f =
     record {
       version = sampleVersion (f .address) (f .label);
       address = sampleAddress (f .address);
-      protocol = sampleProtocol (f .protocol) (present (localType (f .local)) || present (remoteType (f .remote))) (present (indexType (f .index)));
+      protocol = sampleProtocol (f .protocol) (present (typeOfLocal (f .local)) || present (typeOfRemote (f .remote))) (present (typeOfIndex (f .index)));
       local = samplePort (f .local);
       remote = samplePort (f .remote);
       index = sampleIndex (f .index);

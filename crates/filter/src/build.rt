@@ -42,7 +42,7 @@ fn family_of(t: u8) -> u8
 fn exclude(t: u8, u: u8) -> bool
     ensures { λ r. ⌜ r ≡ excludes t u ⌝ }
 {
-    family_of(t) == family_of(u)
+    (u != 0) & (family_of(t) == family_of(u))
 }
 
 impl Filter {

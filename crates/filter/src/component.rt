@@ -1,6 +1,6 @@
 // The components of a filter, each absent or there, and the type octets of document 01's table.
 ghost use mathlib.Core.Path.{_≡_};
-ghost use Rattle.filter.specs.Component.{addressType, protocolType, portType, indexType, classType, labelType};
+ghost use Rattle.filter.specs.Component.{typeOfAddress, typeOfProtocol, typeOfPort, typeOfIndex, typeOfClass, typeOfLabel};
 
 pub const PLACES: usize = 16;
 
@@ -80,7 +80,7 @@ pub struct Filter {
 }
 
 pub(crate) fn address_type(address: RemoteAddress) -> u8
-    ensures { λ r. ⌜ r ≡ addressType address ⌝ }
+    ensures { λ r. ⌜ r ≡ typeOfAddress address ⌝ }
 {
     match address {
         RemoteAddress::Absent => 0,
@@ -96,7 +96,7 @@ pub(crate) fn address_type(address: RemoteAddress) -> u8
 }
 
 pub(crate) fn protocol_type(protocol: Protocol) -> u8
-    ensures { λ r. ⌜ r ≡ protocolType protocol ⌝ }
+    ensures { λ r. ⌜ r ≡ typeOfProtocol protocol ⌝ }
 {
     match protocol {
         Protocol::Absent => 0,
@@ -106,7 +106,7 @@ pub(crate) fn protocol_type(protocol: Protocol) -> u8
 
 // The type of one port is `one`, that of a range `range`.
 pub(crate) fn port_type(one: u8, range: u8, port: Port) -> u8
-    ensures { λ r. ⌜ r ≡ portType one range port ⌝ }
+    ensures { λ r. ⌜ r ≡ typeOfPort one range port ⌝ }
 {
     match port {
         Port::Absent => 0,
@@ -116,7 +116,7 @@ pub(crate) fn port_type(one: u8, range: u8, port: Port) -> u8
 }
 
 pub(crate) fn index_type(index: Index) -> u8
-    ensures { λ r. ⌜ r ≡ indexType index ⌝ }
+    ensures { λ r. ⌜ r ≡ typeOfIndex index ⌝ }
 {
     match index {
         Index::Absent => 0,
@@ -125,7 +125,7 @@ pub(crate) fn index_type(index: Index) -> u8
 }
 
 pub(crate) fn class_type(class: Class) -> u8
-    ensures { λ r. ⌜ r ≡ classType class ⌝ }
+    ensures { λ r. ⌜ r ≡ typeOfClass class ⌝ }
 {
     match class {
         Class::Absent => 0,
@@ -134,7 +134,7 @@ pub(crate) fn class_type(class: Class) -> u8
 }
 
 pub(crate) fn label_type(label: Label) -> u8
-    ensures { λ r. ⌜ r ≡ labelType label ⌝ }
+    ensures { λ r. ⌜ r ≡ typeOfLabel label ⌝ }
 {
     match label {
         Label::Absent => 0,

@@ -1,6 +1,7 @@
 -- What a Bool test says: it is true exactly where P holds. A test made of tests says what its parts say.
 use mathlib.Core.Path.{_≡_, refl, sym, _∙_, subst}
 use mathlib.Core.Bool.{Bool, true, false, not, _&&_, _||_, true≢false, false≢true}
+use mathlib.Core.List.{List, [], _∷_}
 use mathlib.Core.Logic.{_⊎_, inl, inr, ⊎-elim}
 use Prim.Native.Nat.{ℕ, zero, suc, _<_, _≤_}
 use native.Mathlib.Nat.{not-suc-le-zero}
@@ -9,6 +10,7 @@ use lib.Dec.{eqb, leb}
 use borrow.Author.Tests.{eqb-true, eq-eqb, leb-true, le-leb}
 use Rattle.laws.specs.Index.{imp, allBelow, anyBelow, SomeBelow}
 use Rattle.laws.specs.Says.{pick, Says}
+use Rattle.laws.specs.Lists.{some, Some}
 
 -- a test is true or false
 pub which : (b : Bool) → (b ≡ true) ⊎ (b ≡ false)
@@ -65,6 +67,11 @@ says-or {a = false} {b = b} {P = P} {Q = Q} s r = record { to = λ e. inr (r .to
     back : P ⊎ Q → b ≡ true
     back (inl p) = absurd (false≢true (s .from p))
     back (inr q) = r .from q
+
+module _ {A : Type 0} {test : A → Bool} {P : A → Type 0} (says : (x : A) → Says (test x) (P x)) where
+  pub says-some : (xs : List A) → Says (some test xs) (Some P xs)
+  says-some [] = record { to = λ e. absurd (false≢true e); from = λ h. absurd h }
+  says-some (x ∷ xs) = says-or (says x) (says-some xs)
 
 -- where a, then b
 pub says-if : {a b : Bool} {P Q : Type 0} → Says a P → Says b Q → Says (imp a b) (P → Q)

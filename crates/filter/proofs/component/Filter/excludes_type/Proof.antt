@@ -1,5 +1,6 @@
 -- `filter::component::Filter::excludes_type` meets its contract: by what each component's type excludes.
 -- Assumes nothing.
+use Rattle.laws.proofs.Tests.{or-false, or-assoc}
 use Rattle.filter.specs.Build.{excluded}
 use borrow.Author.Needs.{needs}
 use Rattle.filter.proofs.component.Filter.excludes_type.Statement.{statement}
@@ -19,7 +20,8 @@ excludes-type-spec =
     let local = remote .before .before in
     let protocol = local .before .before in
     let address = protocol .before .before in
-    simp (
+    simp (or-assoc, or-false)
+    (simp (
       c .exclude7 .ensures,
       label .label-type .ensures,
       label .before .exclude6 .ensures,
@@ -34,4 +36,4 @@ excludes-type-spec =
       protocol .protocol-type .ensures,
       protocol .before .exclude .ensures,
       address .address-type .ensures,
-    )))
+    ))))
