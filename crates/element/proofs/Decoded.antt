@@ -108,7 +108,8 @@ module _ (xs : List ℕ) (octets : All Octet xs) where
       (pick-in (eqb t 0x51) _ _ _ _ (two-fit 2)
       (pick-in (eqb t 0x60) _ _ _ _ (one-fits 4)
       (pick-in (eqb t 0x70) _ _ _ _ (two-fit 1)
-      (λ l. omega arith)))))))))
+      (pick-in (eqb t 0x80) _ _ _ _ (λ l. omega arith)
+      (λ l. omega arith))))))))))
 
 -- "flow label, low 20 bits"
 component-small : (t : ℕ) (xs : List ℕ) → tooLarge (componentOf t xs) ≡ false
@@ -122,7 +123,8 @@ component-small t xs =
     (small (eqb t 0x50) _ _ refl
     (small (eqb t 0x51) _ _ refl
     (small (eqb t 0x60) _ _ refl
-    (small (eqb t 0x70) _ _ refl (le-ltb largestLabel (beOf xs % 2 ^ 20) (omega arith))))))))))
+    (small (eqb t 0x70) _ _ refl
+    (small (eqb t 0x80) _ _ (le-ltb largestLabel (beOf xs % 2 ^ 20) (omega arith)) refl)))))))))
   where
     small : (b : Bool) (c d : Component) → tooLarge c ≡ false → tooLarge d ≡ false → tooLarge (pick b c d) ≡ false
     small = picked (λ c. tooLarge c ≡ false)

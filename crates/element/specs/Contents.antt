@@ -8,37 +8,62 @@ use Rattle.laws.specs.Says.{pick}
 use Rattle.laws.specs.Octets.{beOf}
 use Rattle.filter.specs.declared.component.Address.{Address}
 use Rattle.filter.specs.declared.component.Filter.{Filter}
-use Rattle.filter.specs.Build.{Component, ipv4Remote, ipv6Remote, protocol, localPort, localRange, remotePort, remoteRange, index, class, label, excluded, added}
+use Rattle.filter.specs.Component.{ipv4RemoteType, ipv6RemoteType, protocolType, localPortType, localRangeType, remotePortType, remoteRangeType}
+use Rattle.filter.specs.Component.{indexType, classType, labelType}
+use Rattle.filter.specs.Build.{Component, ipv4Remote, ipv6Remote, protocol, localPort, localRange, remotePort, remoteRange, index, class, label}
+use Rattle.filter.specs.Build.{excluded, added}
 use Rattle.element.specs.declared.contents.Coded.{Coded, the-variants.Badly, the-variants.Well}
+
+-- ---- "Component types and value lengths": a type, how many octets its value has, and what component they say
+pub record Listed : Type 0 where
+  pub type : ℕ
+  pub octets : ℕ
+  pub meaning : List ℕ → Component
+
+abbrev pub listed : ℕ → ℕ → (List ℕ → Component) → Listed
+listed type octets meaning = record { type = type; octets = octets; meaning = meaning }
+
+-- "Numbers are big-endian."
+abbrev pub number : (ℕ → Component) → List ℕ → Component
+number make xs = make (beOf xs)
+
+-- two numbers, the first of w octets
+abbrev pub numbers : ℕ → (ℕ → ℕ → Component) → List ℕ → Component
+numbers w make xs = make (beOf (take w xs)) (beOf (drop w xs))
+
+abbrev pub addressOf : List ℕ → Address
+addressOf xs = record { high = beOf (take 8 xs); low = beOf (drop 8 xs) }
+
+abbrev pub listedTypes : List Listed
+listedTypes =
+    listed ipv4RemoteType 8 (numbers 4 ipv4Remote)
+    ∷ listed ipv6RemoteType 32 (λ xs. ipv6Remote (addressOf (take 16 xs)) (addressOf (drop 16 xs)))
+    ∷ listed protocolType 1 (number protocol)
+    ∷ listed localPortType 2 (number localPort)
+    ∷ listed localRangeType 4 (numbers 2 localRange)
+    ∷ listed remotePortType 2 (number remotePort)
+    ∷ listed remoteRangeType 4 (numbers 2 remoteRange)
+    ∷ listed indexType 4 (number index)
+    ∷ listed classType 2 (numbers 1 class)
+    -- "flow label, low 20 bits"
+    ∷ listed labelType 3 (λ xs. label (beOf xs % 2 ^ 20))
+    ∷ []
+
+-- a column of the table at type t; `unknown` where the type is not listed
+abbrev pub lookUp : {A : Type 0} → (Listed → A) → A → ℕ → List Listed → A
+lookUp column unknown t [] = unknown
+lookUp column unknown t (l ∷ ls) = pick (eqb t (l .type)) (column l) (lookUp column unknown t ls)
 
 -- "The length for each of the 256 type octets is one table, 0 where the type is unknown."
 unfoldable pub lengthOf : ℕ → ℕ
-lengthOf t =
-    pick (eqb t 0x10) 8
-    (pick (eqb t 0x20) 32
-    (pick (eqb t 0x30) 1
-    (pick (eqb t 0x40) 2
-    (pick (eqb t 0x41) 4
-    (pick (eqb t 0x50) 2 (pick (eqb t 0x51) 4 (pick (eqb t 0x60) 4 (pick (eqb t 0x70) 2 (pick (eqb t 0x80) 3 0)))))))))
+lengthOf t = lookUp (λ l. l .octets) 0 t listedTypes
 
 abbrev pub known : ℕ → Bool
 known t = leb 1 (lengthOf t)
 
--- ---- "Numbers are big-endian."
-abbrev pub addressOf : List ℕ → Address
-addressOf xs = record { high = beOf (take 8 xs); low = beOf (drop 8 xs) }
-
--- the component of type t, a known one, whose value is xs; "flow label, low 20 bits"
+-- the component of type t whose value is xs; an unknown type is never asked for
 unfoldable pub componentOf : ℕ → List ℕ → Component
-componentOf t xs =
-    pick (eqb t 0x10) (ipv4Remote (beOf (take 4 xs)) (beOf (drop 4 xs)))
-    (pick (eqb t 0x20) (ipv6Remote (addressOf (take 16 xs)) (addressOf (drop 16 xs)))
-    (pick (eqb t 0x30) (protocol (beOf xs))
-    (pick (eqb t 0x40) (localPort (beOf xs))
-    (pick (eqb t 0x41) (localRange (beOf (take 2 xs)) (beOf (drop 2 xs)))
-    (pick (eqb t 0x50) (remotePort (beOf xs))
-    (pick (eqb t 0x51) (remoteRange (beOf (take 2 xs)) (beOf (drop 2 xs)))
-    (pick (eqb t 0x60) (index (beOf xs)) (pick (eqb t 0x70) (class (beOf (take 1 xs)) (beOf (drop 1 xs))) (label (beOf xs % 2 ^ 20))))))))))
+componentOf t xs = lookUp (λ l. l .meaning xs) (protocol 0) t listedTypes
 
 -- ---- "A badly coded filter (unknown or repeated type, component past its contents, empty contents, forbidden pair)"
 -- what the octets say after the filter f so far, of whose last component k octets are still to pass

@@ -20,6 +20,8 @@ use Rattle.filter.specs.declared.component.Class.the-variants.{Absent as noClas
 use Rattle.filter.specs.declared.component.Label.{Label}
 use Rattle.filter.specs.declared.component.Label.the-variants.{Absent as noLabel, Is as isLabel}
 use Rattle.filter.specs.declared.component.Filter.{Filter}
+use Rattle.filter.specs.Component.{ipv4RemoteType, ipv6RemoteType, protocolType, localPortType, localRangeType, remotePortType, remoteRangeType}
+use Rattle.filter.specs.Component.{indexType, classType, labelType}
 use Rattle.filter.specs.Sizes.{precedenceCount}
 use Rattle.filter.specs.Build.{excluded, added}
 use Rattle.filter.specs.Coding.{held}
@@ -132,7 +134,7 @@ surveyed st f = surveyedBy (held f) st f
 abbrev pub fieldOctets : Field → List ℕ
 fieldOctets No = []
 fieldOctets (Narrow t v) = t ∷ beBytes (lengthOf t) v
-fieldOctets (Wide address mask) = 0x20 ∷ addressBytes address ++ addressBytes mask
+fieldOctets (Wide address mask) = ipv6RemoteType ∷ addressBytes address ++ addressBytes mask
 
 -- a type's number has at most eight octets
 abbrev pub narrow : Field → Bool
@@ -142,12 +144,12 @@ narrow (Wide address mask) = true
 
 abbrev pub remoteField : RemoteAddress → Field
 remoteField noAddress = No
-remoteField (V4 address mask) = Narrow 0x10 (address * 2 ^ 32 + mask)
+remoteField (V4 address mask) = Narrow ipv4RemoteType (address * 2 ^ 32 + mask)
 remoteField (V6 address mask) = Wide address mask
 
 abbrev pub protocolField : Protocol → Field
 protocolField noProtocol = No
-protocolField (isProtocol x) = Narrow 0x30 x
+protocolField (isProtocol x) = Narrow protocolType x
 
 abbrev pub portField : ℕ → ℕ → Port → Field
 portField one range noPort = No
@@ -156,22 +158,22 @@ portField one range (Range low high) = Narrow range (low * 2 ^ 16 + high)
 
 abbrev pub indexField : Index → Field
 indexField noIndex = No
-indexField (isIndex x) = Narrow 0x60 x
+indexField (isIndex x) = Narrow indexType x
 
 abbrev pub classField : Class → Field
 classField noClass = No
-classField (Masked x mask) = Narrow 0x70 (x * 2 ^ 8 + mask)
+classField (Masked x mask) = Narrow classType (x * 2 ^ 8 + mask)
 
 abbrev pub labelField : Label → Field
 labelField noLabel = No
-labelField (isLabel x) = Narrow 0x80 x
+labelField (isLabel x) = Narrow labelType x
 
 abbrev pub fieldsOf : Filter → List Field
 fieldsOf f =
     remoteField (f .address)
     ∷ protocolField (f .protocol)
-    ∷ portField 0x40 0x41 (f .local)
-    ∷ portField 0x50 0x51 (f .remote)
+    ∷ portField localPortType localRangeType (f .local)
+    ∷ portField remotePortType remoteRangeType (f .remote)
     ∷ indexField (f .index)
     ∷ classField (f .class)
     ∷ labelField (f .label)

@@ -21,6 +21,8 @@ use Rattle.filter.specs.declared.component.Class.the-variants.{Absent as noClas
 use Rattle.filter.specs.declared.component.Label.{Label}
 use Rattle.filter.specs.declared.component.Label.the-variants.{Absent as noLabel, Is as isLabel}
 use Rattle.filter.specs.declared.component.Filter.{Filter}
+use Rattle.filter.specs.Component.{ipv4RemoteType, ipv6RemoteType, protocolType, localPortType, localRangeType, remotePortType, remoteRangeType}
+use Rattle.filter.specs.Component.{indexType, classType, labelType}
 use Rattle.filter.specs.Coding.{held, emptyPlace}
 use Rattle.filter.specs.Fittable.{placeFine}
 use Rattle.element.specs.declared.answer.SetOperation.{SetOperation}
@@ -43,12 +45,12 @@ addressBytes a = beBytes 8 (a .high) ++ beBytes 8 (a .low)
 
 abbrev pub remoteOctets : RemoteAddress → List ℕ
 remoteOctets noAddress = []
-remoteOctets (V4 address mask) = 0x10 ∷ beBytes 4 address ++ beBytes 4 mask
-remoteOctets (V6 address mask) = 0x20 ∷ addressBytes address ++ addressBytes mask
+remoteOctets (V4 address mask) = ipv4RemoteType ∷ beBytes 4 address ++ beBytes 4 mask
+remoteOctets (V6 address mask) = ipv6RemoteType ∷ addressBytes address ++ addressBytes mask
 
 abbrev pub protocolOctets : Protocol → List ℕ
 protocolOctets noProtocol = []
-protocolOctets (isProtocol x) = 0x30 ∷ beBytes 1 x
+protocolOctets (isProtocol x) = protocolType ∷ beBytes 1 x
 
 abbrev pub portOctets : ℕ → ℕ → Port → List ℕ
 portOctets one range noPort = []
@@ -57,22 +59,24 @@ portOctets one range (Range low high) = range ∷ beBytes 2 low ++ beBytes 2 hig
 
 abbrev pub indexOctets : Index → List ℕ
 indexOctets noIndex = []
-indexOctets (isIndex x) = 0x60 ∷ beBytes 4 x
+indexOctets (isIndex x) = indexType ∷ beBytes 4 x
 
 abbrev pub classOctets : Class → List ℕ
 classOctets noClass = []
-classOctets (Masked x mask) = 0x70 ∷ beBytes 1 x ++ beBytes 1 mask
+classOctets (Masked x mask) = classType ∷ beBytes 1 x ++ beBytes 1 mask
 
 abbrev pub labelOctets : Label → List ℕ
 labelOctets noLabel = []
-labelOctets (isLabel x) = 0x80 ∷ beBytes 3 x
+labelOctets (isLabel x) = labelType ∷ beBytes 3 x
 
 -- "components in rising type"
 unfoldable pub contentsOctets : Filter → List ℕ
 contentsOctets f =
     remoteOctets (f .address)
     ++ (protocolOctets (f .protocol)
-    ++ (portOctets 0x40 0x41 (f .local) ++ (portOctets 0x50 0x51 (f .remote) ++ (indexOctets (f .index) ++ (classOctets (f .class) ++ labelOctets (f .label))))))
+    ++ (portOctets localPortType localRangeType (f .local)
+    ++ (portOctets remotePortType remoteRangeType (f .remote)
+    ++ (indexOctets (f .index) ++ (classOctets (f .class) ++ labelOctets (f .label))))))
 
 unfoldable pub entryOctets : Entry → List ℕ
 entryOctets e =

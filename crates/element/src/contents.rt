@@ -11,6 +11,15 @@ use crate::lengths::component_length;
 use crate::octets::number_at;
 use filter::Address;
 use filter::Filter;
+use filter::component::CLASS;
+use filter::component::INDEX;
+use filter::component::IPV4_REMOTE;
+use filter::component::IPV6_REMOTE;
+use filter::component::LOCAL_PORT;
+use filter::component::LOCAL_RANGE;
+use filter::component::PROTOCOL;
+use filter::component::REMOTE_PORT;
+use filter::component::REMOTE_RANGE;
 
 pub enum Coded {
     Badly,
@@ -47,15 +56,24 @@ fn add_component(f: Filter, t: u8, s: &[u8], at: usize) -> Filter
     ensures { λ r. ⌜ r ≡ added f (componentOf t (take (lengthOf t) (drop at (now (s .entry))))) ⌝ }
 {
     match t {
-        0x10 => f.with_ipv4_remote(number_at(s, at, 4) as u32, number_at(s, at + 4, 4) as u32),
-        0x20 => f.with_ipv6_remote(address_at(s, at), address_at(s, at + 16)),
-        0x30 => f.with_protocol(number_at(s, at, 1) as u8),
-        0x40 => f.with_local_port(number_at(s, at, 2) as u16),
-        0x41 => f.with_local_range(number_at(s, at, 2) as u16, number_at(s, at + 2, 2) as u16),
-        0x50 => f.with_remote_port(number_at(s, at, 2) as u16),
-        0x51 => f.with_remote_range(number_at(s, at, 2) as u16, number_at(s, at + 2, 2) as u16),
-        0x60 => f.with_index(number_at(s, at, 4) as u32),
-        0x70 => f.with_class(number_at(s, at, 1) as u8, number_at(s, at + 1, 1) as u8),
+        IPV4_REMOTE => f.with_ipv4_remote(
+            number_at(s, at, 4) as u32,
+            number_at(s, at + 4, 4) as u32,
+        ),
+        IPV6_REMOTE => f.with_ipv6_remote(address_at(s, at), address_at(s, at + 16)),
+        PROTOCOL => f.with_protocol(number_at(s, at, 1) as u8),
+        LOCAL_PORT => f.with_local_port(number_at(s, at, 2) as u16),
+        LOCAL_RANGE => f.with_local_range(
+            number_at(s, at, 2) as u16,
+            number_at(s, at + 2, 2) as u16,
+        ),
+        REMOTE_PORT => f.with_remote_port(number_at(s, at, 2) as u16),
+        REMOTE_RANGE => f.with_remote_range(
+            number_at(s, at, 2) as u16,
+            number_at(s, at + 2, 2) as u16,
+        ),
+        INDEX => f.with_index(number_at(s, at, 4) as u32),
+        CLASS => f.with_class(number_at(s, at, 1) as u8, number_at(s, at + 1, 1) as u8),
         _ => f.with_label(label_at(s, at)),
     }
 }

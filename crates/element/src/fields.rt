@@ -16,6 +16,16 @@ use filter::Label;
 use filter::Port;
 use filter::Protocol;
 use filter::RemoteAddress;
+use filter::component::CLASS;
+use filter::component::INDEX;
+use filter::component::IPV4_REMOTE;
+use filter::component::IPV6_REMOTE;
+use filter::component::LABEL;
+use filter::component::LOCAL_PORT;
+use filter::component::LOCAL_RANGE;
+use filter::component::PROTOCOL;
+use filter::component::REMOTE_PORT;
+use filter::component::REMOTE_RANGE;
 
 const KINDS: usize = 7;
 
@@ -32,7 +42,7 @@ fn remote_field(x: RemoteAddress) -> Field
     match x {
         RemoteAddress::Absent => Field::No,
         RemoteAddress::V4 { address, mask } => Field::Narrow(
-            0x10,
+            IPV4_REMOTE,
             address as u64 * 4294967296 + mask as u64,
         ),
         RemoteAddress::V6 { address, mask } => Field::Wide(address, mask),
@@ -44,7 +54,7 @@ fn protocol_field(x: Protocol) -> Field
 {
     match x {
         Protocol::Absent => Field::No,
-        Protocol::Is(v) => Field::Narrow(0x30, v as u64),
+        Protocol::Is(v) => Field::Narrow(PROTOCOL, v as u64),
     }
 }
 
@@ -63,7 +73,7 @@ fn index_field(x: Index) -> Field
 {
     match x {
         Index::Absent => Field::No,
-        Index::Is(v) => Field::Narrow(0x60, v as u64),
+        Index::Is(v) => Field::Narrow(INDEX, v as u64),
     }
 }
 
@@ -72,7 +82,7 @@ fn class_field(x: Class) -> Field
 {
     match x {
         Class::Absent => Field::No,
-        Class::Masked { class, mask } => Field::Narrow(0x70, class as u64 * 256 + mask as u64),
+        Class::Masked { class, mask } => Field::Narrow(CLASS, class as u64 * 256 + mask as u64),
     }
 }
 
@@ -81,7 +91,7 @@ fn label_field(x: Label) -> Field
 {
     match x {
         Label::Absent => Field::No,
-        Label::Is(v) => Field::Narrow(0x80, v as u64),
+        Label::Is(v) => Field::Narrow(LABEL, v as u64),
     }
 }
 
@@ -99,8 +109,8 @@ fn fields(f: Filter) -> [Field; KINDS]
     [
         remote_field(address),
         protocol_field(protocol),
-        port_field(0x40, 0x41, local),
-        port_field(0x50, 0x51, remote),
+        port_field(LOCAL_PORT, LOCAL_RANGE, local),
+        port_field(REMOTE_PORT, REMOTE_RANGE, remote),
         index_field(index),
         class_field(class),
         label_field(label),
@@ -151,7 +161,7 @@ fn put_field(b: &mut [u8], at: usize, x: Field) -> usize
             at + 1 + w
         }
         Field::Wide(address, mask) => {
-            b[at] = 0x20;
+            b[at] = IPV6_REMOTE;
             put_address(b, at + 1, address);
             put_address(b, at + 17, mask);
             at + 33
