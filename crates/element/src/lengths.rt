@@ -1,7 +1,9 @@
 // How many octets follow each component type; 0 where there is no such type.
 ghost use mathlib.Core.Path.{_≡_};
+ghost use mathlib.Core.Bool.{true};
 ghost use Prim.Native.Nat.{_≤_};
 ghost use Rattle.element.specs.Contents.{lengthOf};
+ghost use Rattle.element.specs.Walk.{lengthsRight};
 use crate::octets::wide;
 
 const LENGTHS: [u8; 256] = [
@@ -263,8 +265,15 @@ const LENGTHS: [u8; 256] = [
     0,
 ];
 
+fn length_in(lengths: &[u8; 256], t: u8) -> usize
+    requires { ⌜ lengthsRight (now lengths) ≡ true ⌝ }
+    ensures { λ r. ⌜ (r ≡ lengthOf t) × (r ≤ 32) ⌝ }
+{
+    wide(lengths[t as usize])
+}
+
 pub(crate) fn component_length(t: u8) -> usize
     ensures { λ r. ⌜ (r ≡ lengthOf t) × (r ≤ 32) ⌝ }
 {
-    wide(LENGTHS[t as usize])
+    length_in(&LENGTHS, t)
 }

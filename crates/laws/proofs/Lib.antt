@@ -9,6 +9,5 @@ pub mod Octets
 pub mod Parts
 pub mod Says
 pub mod Repeats
-pub mod Tables
 pub mod Tests
 pub mod Typed
