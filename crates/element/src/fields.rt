@@ -1,7 +1,7 @@
 // A filter's components as they are written.
 ghost use mathlib.Core.Path.{_≡_};
 ghost use mathlib.Core.Bool.{true};
-ghost use Prim.Native.Nat.{_+_, _≤_};
+ghost use Prim.Native.Nat.{_+_, _*_, _^_, _≤_};
 ghost use lib.ListN.{length};
 ghost use lib.Seq.{sets};
 ghost use Rattle.element.specs.Write.{addressBytes, contentsOctets};
@@ -36,15 +36,20 @@ pub enum Field {
     Wide(Address, Address),
 }
 
+// Two numbers as one, which has the octets of the first and then those of the second.
+fn pair(t: u8, first: u32, unit: u64, second: u32) -> Field
+    requires { ⌜ unit ≤ 2 ^ 32 ⌝ }
+    ensures { λ r. ⌜ r ≡ Field.Narrow t (first * unit + second) ⌝ }
+{
+    Field::Narrow(t, first as u64 * unit + second as u64)
+}
+
 fn remote_field(x: RemoteAddress) -> Field
     ensures { λ r. ⌜ r ≡ remoteField x ⌝ }
 {
     match x {
         RemoteAddress::Absent => Field::No,
-        RemoteAddress::V4 { address, mask } => Field::Narrow(
-            IPV4_REMOTE,
-            address as u64 * 4294967296 + mask as u64,
-        ),
+        RemoteAddress::V4 { address, mask } => pair(IPV4_REMOTE, address, 4294967296, mask),
         RemoteAddress::V6 { address, mask } => Field::Wide(address, mask),
     }
 }
@@ -64,7 +69,7 @@ fn port_field(one: u8, range: u8, x: Port) -> Field
     match x {
         Port::Absent => Field::No,
         Port::Is(v) => Field::Narrow(one, v as u64),
-        Port::Range { low, high } => Field::Narrow(range, low as u64 * 65536 + high as u64),
+        Port::Range { low, high } => pair(range, low as u32, 65536, high as u32),
     }
 }
 
@@ -82,7 +87,7 @@ fn class_field(x: Class) -> Field
 {
     match x {
         Class::Absent => Field::No,
-        Class::Masked { class, mask } => Field::Narrow(CLASS, class as u64 * 256 + mask as u64),
+        Class::Masked { class, mask } => pair(CLASS, class as u32, 256, mask as u32),
     }
 }
 

@@ -1,4 +1,4 @@
--- `element::fields::remote_field` meets its contract, by the case that was matched.
+-- `element::fields::remote_field` meets its contract, by the case that was matched and by what `pair` gives.
 -- Assumes nothing.
 use borrow.Author.Needs.{needs}
 use Rattle.element.proofs.fields.remote_field.Statement.{statement}
@@ -8,13 +8,6 @@ pub remote-field-spec : {M : Type 1} → statement M
 remote-field-spec =
     tie.close
     (tie.spec
-    (λ c. search needs)
-    (λ c. search needs)
-    (λ c. search needs)
-    (λ c. search needs)
-    (λ c. search needs)
-    (λ c. search needs)
-    (λ c. search needs)
-    (λ c. search needs)
-    (λ c. simp (c .before .x .given .1))
+    (λ c. search needs) (λ c. search needs) (λ c κs. search needs) (λ c. search needs) (λ c. search needs)
+    (λ c. simp (c .pair .ensures, c .before .before .x .given .1))
     (λ c. simp (c .before .x2 .given .1)))
