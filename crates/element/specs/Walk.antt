@@ -1,5 +1,5 @@
 -- How the code walks: what its inner functions give. Nothing here is claimed of the element; the layer's theorems tie it to Read and Write.
-use Prim.Native.Nat.{ℕ, suc, _+_, _-_, _*_, _^_}
+use Prim.Native.Nat.{ℕ, _+_, _-_, _*_, _^_}
 use mathlib.Core.Bool.{Bool, true, false, not, _&&_, _||_}
 use mathlib.Core.List.{List, [], _∷_, _++_}
 use lib.Dec.{eqb, leb, ltb}
@@ -41,7 +41,7 @@ use Rattle.element.specs.declared.judge.Judged.{Judged}
 use Rattle.element.specs.declared.survey.Survey.{Survey}
 use Rattle.element.specs.declared.fields.Field.{Field}
 use Rattle.element.specs.declared.fields.Field.the-variants.{No, Narrow, Wide}
-use Rattle.element.specs.Read.{noFilters, noMarks, refused, Entry, codedOf}
+use Rattle.element.specs.Read.{noFilters, noMarks, refused, codedOf}
 use Rattle.element.specs.Contents.{lengthOf, known, componentOf}
 use Rattle.element.specs.Framing.{Raw, identifierOf, Split, cut, split}
 use Rattle.element.specs.Write.{addressBytes, entryOctets}

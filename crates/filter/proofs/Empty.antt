@@ -1,9 +1,9 @@
 -- An empty place is the bare filter with precedence and direction 0, and no other.
 use mathlib.Core.Path.{_≡_, refl, _∙_, ap}
-use mathlib.Core.Bool.{Bool, true, false, not, _&&_, false≢true}
+use mathlib.Core.Bool.{true, false, not, _&&_, false≢true}
 use Prim.Native.Nat.{ℕ}
 use lib.Dec.{eqb}
-use borrow.Author.Tests.{eqb-true, eq-eqb, not-true}
+use borrow.Author.Tests.{eqb-true, not-true}
 use Rattle.laws.specs.Says.{Says}
 use Rattle.laws.proofs.Tests.{both, neither}
 use Rattle.filter.specs.declared.component.RemoteAddress.{RemoteAddress}
@@ -19,7 +19,8 @@ use Rattle.filter.specs.declared.component.Class.the-variants.{Absent as
 use Rattle.filter.specs.declared.component.Label.{Label}
 use Rattle.filter.specs.declared.component.Label.the-variants.{Absent as noLabel, Is as isLabel}
 use Rattle.filter.specs.declared.component.Filter.{Filter}
-use Rattle.filter.specs.Component.{localPortType, localRangeType, remotePortType, remoteRangeType, typeOfAddress, typeOfProtocol, typeOfPort, typeOfLocal, typeOfRemote, typeOfIndex, typeOfClass, typeOfLabel, present}
+use Rattle.filter.specs.Component.{localPortType, localRangeType, remotePortType, remoteRangeType, typeOfAddress, typeOfProtocol}
+use Rattle.filter.specs.Component.{typeOfPort, typeOfIndex, typeOfClass, typeOfLabel, present}
 use Rattle.filter.specs.Coding.{held, emptyPlace}
 use Rattle.filter.specs.Build.{bare}
 

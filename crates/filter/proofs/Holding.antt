@@ -1,6 +1,6 @@
 -- A filter's types are those of the components that it holds; types of one family are the same, or exclude each other.
 use mathlib.Core.Path.{_≡_, refl, sym, _∙_, ap}
-use mathlib.Core.Bool.{Bool, true, false, not}
+use mathlib.Core.Bool.{Bool, true, false}
 use mathlib.Core.Logic.{_⊎_, inl, inr}
 use Prim.Native.Nat.{ℕ}
 use native.Mathlib.Omega.{arith}
@@ -22,8 +22,10 @@ use Rattle.filter.specs.declared.component.Class.the-variants.{Absent as
 use Rattle.filter.specs.declared.component.Label.{Label}
 use Rattle.filter.specs.declared.component.Label.the-variants.{Absent as noLabel, Is as isLabel}
 use Rattle.filter.specs.declared.component.Filter.{Filter}
-use Rattle.filter.specs.Component.{ipv4RemoteType, ipv6RemoteType, localPortType, localRangeType, remotePortType, remoteRangeType, typeOfAddress, typeOfProtocol, typeOfLocal, typeOfRemote, typeOfIndex, typeOfClass, typeOfLabel, typesOf, present, family, excludes}
-use Rattle.filter.specs.Build.{Component, ipv4Remote, ipv6Remote, protocol, localPort, localRange, remotePort, remoteRange, index, class, label, typeOf, put, withAddress, withProtocol, withLocal, withRemote, withIndex, withClass, withLabel, excluded}
+use Rattle.filter.specs.Component.{ipv4RemoteType, ipv6RemoteType, localPortType, localRangeType, remotePortType, remoteRangeType, typeOfAddress, typeOfProtocol, typeOfLocal}
+use Rattle.filter.specs.Component.{typeOfRemote, typeOfIndex, typeOfClass, typeOfLabel, typesOf, present, family, excludes}
+use Rattle.filter.specs.Build.{Component, ipv4Remote, ipv6Remote, protocol, localPort, localRange, remotePort, remoteRange, index, class, label}
+use Rattle.filter.specs.Build.{typeOf, put, withAddress, withProtocol, withLocal, withRemote, withIndex, withClass, withLabel, excluded}
 use Rattle.filter.specs.Holding.{Holds, ExcludeEachOther, 10-with-20, 20-with-10, 40-with-41, 41-with-40, 50-with-51, 51-with-50}
 
 -- ---- A component that is present is held.

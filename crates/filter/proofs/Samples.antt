@@ -1,10 +1,10 @@
 -- Where any packet fits, the one that the filter describes does: component by component.
 use mathlib.Core.Path.{_≡_, refl, sym, _∙_}
-use mathlib.Core.Bool.{Bool, true, false, _&&_, _||_, false≢true}
+use mathlib.Core.Bool.{Bool, true, false, false≢true}
 use mathlib.Core.Logic.{⊎-elim}
-use Prim.Native.Nat.{ℕ, _*_, _/_, _^_, _<_}
+use Prim.Native.Nat.{ℕ, _*_, _/_, _^_}
 use native.Mathlib.Omega.{arith}
-use lib.Dec.{eqb, leb}
+use lib.Dec.{eqb}
 use borrow.Author.Tests.{eqb-true, eq-eqb}
 use Rattle.laws.specs.Numbers.{within}
 use Rattle.laws.proofs.Tests.{both, either, within-low}
@@ -23,7 +23,7 @@ use Rattle.filter.specs.declared.component.Class.the-variants.{Absent as
 use Rattle.filter.specs.declared.component.Label.{Label}
 use Rattle.filter.specs.declared.component.Label.the-variants.{Absent as noLabel, Is as isLabel}
 use Rattle.filter.specs.Component.{typeOfPort, typeOfIndex, present}
-use Rattle.filter.specs.Fit.{validAt, carriesPorts, carriesIndex, firstFour, agreesAddress, agreesProtocol, agreesPort, agreesIndex, agreesClass, agreesLabel}
+use Rattle.filter.specs.Fit.{validAt, carriesPorts, carriesIndex, agreesAddress, agreesProtocol, agreesPort, agreesIndex, agreesClass, agreesLabel}
 use Rattle.filter.specs.Fittable.{sampleVersion, sampleAddress, sampleProtocol, samplePort, sampleIndex, sampleClass, sampleLabel}
 
 -- ---- the version: the address and the label agree with one, so they agree with that of the sample

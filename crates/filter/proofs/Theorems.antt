@@ -1,16 +1,14 @@
 -- The theorems of the layer.
-use mathlib.Core.Path.{_≡_, refl, sym, _∙_}
-use mathlib.Core.Bool.{Bool, true, false, _&&_, _||_}
+use mathlib.Core.Path.{_≡_, refl}
+use mathlib.Core.Bool.{Bool, true, false, _||_}
 use mathlib.Core.List.{List, [], _∷_}
 use mathlib.Core.Logic.{_⊎_, inl, inr, ⊎-elim}
-use Prim.Native.Nat.{ℕ, _+_, _*_, _^_, _<_, _≤_}
+use Prim.Native.Nat.{ℕ, _^_, _<_, _≤_}
 use native.Mathlib.Omega.{arith}
-use lib.Dec.{leb, ltb}
 use borrow.Author.Tests.{le-leb, ltb-false}
 use Rattle.laws.specs.Says.{pick, Says}
 use Rattle.laws.proofs.Says.{says-so}
 use Rattle.laws.proofs.Tests.{both, either, or-left, or-right, neither}
-use Rattle.filter.specs.declared.component.Address.{Address}
 use Rattle.filter.specs.declared.component.RemoteAddress.{RemoteAddress}
 use Rattle.filter.specs.declared.component.RemoteAddress.the-variants.{Absent as noAddress, V4, V6}
 use Rattle.filter.specs.declared.component.Protocol.{Protocol}
@@ -25,9 +23,11 @@ use Rattle.filter.specs.declared.component.Label.{Label}
 use Rattle.filter.specs.declared.component.Label.the-variants.{Absent as noLabel, Is as isLabel}
 use Rattle.filter.specs.declared.component.Filter.{Filter}
 use Rattle.filter.specs.declared.packet.Header.{Header}
-use Rattle.filter.specs.Component.{localPortType, localRangeType, remotePortType, remoteRangeType, typeOfLocal, typeOfRemote, typeOfIndex, present, largestLabel}
+use Rattle.filter.specs.Component.{localPortType, localRangeType, remotePortType, remoteRangeType, typeOfLocal}
+use Rattle.filter.specs.Component.{typeOfRemote, typeOfIndex, present, largestLabel}
 use Rattle.filter.specs.Coding.{held, labelFits, wellCoded}
-use Rattle.filter.specs.Build.{Component, ipv4Remote, ipv6Remote, protocol, localPort, localRange, remotePort, remoteRange, index, class, label, typeOf, bare, put, excluded, tooLarge, added, built}
+use Rattle.filter.specs.Build.{Component, ipv4Remote, ipv6Remote, protocol, localPort, localRange, remotePort, remoteRange, index}
+use Rattle.filter.specs.Build.{class, label, typeOf, bare, put, excluded, tooLarge, added, built}
 use Rattle.filter.specs.Holding.{ExcludeEachOther, HeldOrExcluded}
 use Rattle.filter.specs.Fit.{validHeader, agreesAddress, agreesProtocol, agreesPort, agreesIndex, agreesClass, agreesLabel, agreesTransport, agreesNetwork, fits}
 use Rattle.filter.specs.Ranges.{AddressInRange, HeaderInRange, RemoteInRange, ProtocolInRange, PortInRange, IndexInRange, ClassInRange, LabelInRange, FilterInRange}

@@ -1,5 +1,4 @@
 -- What a filter is by itself.
-use Prim.Native.Nat.{ℕ}
 use mathlib.Core.Bool.{Bool, true, not, _&&_, _||_}
 use lib.Dec.{eqb, leb}
 use Rattle.laws.specs.Lists.{some}

@@ -1,5 +1,5 @@
 -- Every number in its type's range: what the code's types give by themselves, said of the definitions' natural numbers.
-use Prim.Native.Nat.{ℕ, _^_, _<_}
+use Prim.Native.Nat.{_^_, _<_}
 use Rattle.filter.specs.declared.component.Address.{Address}
 use Rattle.filter.specs.declared.component.RemoteAddress.{RemoteAddress}
 use Rattle.filter.specs.declared.component.RemoteAddress.the-variants.{Absent as noAddress, V4, V6}

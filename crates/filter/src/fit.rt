@@ -1,6 +1,5 @@
 // When a filter fits a header.
 ghost use mathlib.Core.Path.{_≡_};
-ghost use Prim.Native.Nat.{_/_, _^_};
 ghost use Rattle.laws.specs.Numbers.{sameUnder, within};
 ghost use Rattle.filter.specs.Fit.{agreesAddress, agreesProtocol, agreesPort, agreesIndex, agreesClass, agreesLabel, agreesTransport, agreesNetwork, firstFour, fits};
 use crate::component::Address;

@@ -1,6 +1,5 @@
 // Whether any packet fits a filter: the packet that the filter itself describes does, or none.
 ghost use mathlib.Core.Path.{_≡_};
-ghost use mathlib.Core.Bool.{Bool};
 ghost use Rattle.filter.specs.Fittable.{sampleVersion, sampleAddress, sampleProtocol, samplePort, sampleIndex, sampleClass, sampleLabel, sample, fittable, placeFine};
 use crate::coding::empty_place;
 use crate::coding::well_coded;

@@ -1,6 +1,6 @@
 -- `element::fields::pair` meets its contract: the product and the sum fit, since the unit is 2 ^ 32 at most.
 -- Assumes nothing.
-use Prim.Native.Nat.{ℕ, _*_, _^_, _≤_}
+use Prim.Native.Nat.{_*_, _^_, _≤_}
 use native.Mathlib.Nat.{mul-le-mul-left}
 use native.Mathlib.Omega.{arith}
 use borrow.Author.Needs.{needs}

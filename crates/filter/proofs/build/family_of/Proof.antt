@@ -1,7 +1,6 @@
 -- `filter::build::family_of` meets its contract: each type by its number.
 -- Assumes nothing.
 use borrow.Author.Tests.{ne-eqb}
-use borrow.Author.Needs.{needs}
 use Rattle.filter.proofs.build.family_of.Statement.{statement}
 use Rattle.filter.proofs.build.family_of.Tie as tie
 
