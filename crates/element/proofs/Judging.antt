@@ -2,26 +2,26 @@
 use mathlib.Core.Path.{_≡_, refl, sym, ap, _∙_}
 use mathlib.Core.Bool.{Bool, true, false, not, _&&_, _||_, or-false}
 use mathlib.Core.List.{List, [], _∷_, map}
-use Prim.Native.Nat.{ℕ, zero, suc, _-_, _≤_, _<_}
+use Prim.Native.Nat.{ℕ, zero, suc, _<_}
 use native.Mathlib.Omega.{arith}
-use lib.ListN.{length, take, drop, getD}
+use lib.ListN.{take, drop, getD}
 use Rattle.laws.specs.Says.{pick}
 use Rattle.laws.specs.Lists.{All, every, fold}
+use Rattle.laws.proofs.Parts.{all-drop}
 use Rattle.laws.proofs.Marks.{again, again-repeats}
 use Rattle.filter.specs.declared.component.Filter.{Filter}
 use Rattle.filter.specs.Build.{Component, ipv4Remote, ipv6Remote, protocol, localPort, localRange, remotePort, remoteRange, index, class, label, put, tooLarge, typeOf, excluded, added, bare}
 use Rattle.element.specs.declared.answer.SetOperation.{SetOperation}
-use Rattle.element.specs.declared.answer.Cause.the-variants.{Operation}
-use Rattle.element.specs.declared.framing.Place.the-variants.{Cut, At}
 use Rattle.element.specs.declared.contents.Coded.{Coded}
 use Rattle.element.specs.declared.contents.Coded.the-variants.{Badly, Well}
 use Rattle.element.specs.declared.judge.Judged.{Judged}
-use Rattle.element.specs.Read.{noFilters, noMarks, refused, Entry, precedenceOf, fits, codedOf, Entries, badly, coded, withEntry, entriesOf, twice, laid, judgedEntries, judgedFrame}
+use Rattle.element.specs.Read.{noFilters, noMarks, Entry, precedenceOf, fits, codedOf, Entries, badly, coded, withEntry, entriesOf, twice, laid, judgedEntries, judgedFrame}
 use Rattle.element.specs.Contents.{lengthOf, known, componentOf, contentsFrom, contentsOf}
-use Rattle.element.specs.Framing.{Raw, identifierOf, directionOf, Split, cut, split, splitOf, restFits, framedSplit}
-use Rattle.element.specs.Walk.{placeOf, whole, noPrecedences, judgeStart, judgedWith, judgedRaw, judgedSplit, verdictOf}
+use Rattle.element.specs.Framing.{Raw, identifierOf, directionOf, splitOf, framedOf}
+use Rattle.element.specs.Walk.{whole, noPrecedences, judgeStart, judgedWith, judgedRaw, judgedSplit, verdictOf}
 use Rattle.element.specs.Meaning.{Octet}
-use Rattle.element.proofs.Splitting.{OctetPrecedence, rest-at, narrow-precedences}
+use Rattle.element.proofs.Splitting.{OctetPrecedence, narrow-precedences}
+use Rattle.element.proofs.Frames.{FiltersFramed}
 
 -- ---- decoding keeps the precedence and the direction of the filter that it starts from
 pub record Keeps (f g : Filter) : Type 0 where
@@ -190,43 +190,15 @@ judged-verdict operation r (coded es) h =
     (verdict-at operation (fold judgedEntry judgeStart es) es
     (judged-badly judgeStart es) (judged-row judgeStart es) (judged-unfit judgeStart es) (start-repeated es (h .1)))
 
-pub verdict-entries : (operation : SetOperation) (rs : List Raw) → All OctetPrecedence rs
+verdict-entries : (operation : SetOperation) (rs : List Raw) → All OctetPrecedence rs
     → verdictOf operation (fold judgedRaw judgeStart rs) ≡ judgedEntries operation (entriesOf rs)
 verdict-entries operation rs h = judged-verdict operation (fold judgedRaw judgeStart rs) (entriesOf rs) (follows judgeStart rs h)
 
--- ---- a filter set, from the place where its filters end
-pub set-cut : (operation : SetOperation) (e total : ℕ) (q : Split) → placeOf total q ≡ Cut → judgedFrame (framedSplit operation e q) ≡ refused Operation
-set-cut operation e total cut h = refl
-set-cut operation e total (split rs rest) h = let z : _≡_ {A = ℕ} 0 1 = cc in absurd (omega arith)
+-- ---- the filters of a framed value
+module _ (s : List ℕ) (operation : SetOperation) (n : ℕ) (f : FiltersFramed s operation n) where
+  pub filters-whole : whole (splitOf n (drop 1 s)) ≡ true
+  filters-whole = rw (f .there)
 
--- the filters of a list that is all there, and what is left
-record Parts (n : ℕ) (s : List ℕ) (at : ℕ) : Type 0 where
-  raws : List Raw
-  rest : splitOf n s ≡ split raws (drop at s)
-  within : at ≤ length s
-
-parts : (n : ℕ) (s : List ℕ) (at : ℕ) → placeOf (length s) (splitOf n s) ≡ At at → Parts n s at
-parts n s at h = go (splitOf n s) refl h
-  where
-    go : (q : Split) → splitOf n s ≡ q → placeOf (length s) q ≡ At at → Parts n s at
-    go cut e h = let z : _≡_ {A = ℕ} 0 1 = cc in absurd (omega arith)
-    go (split rs rest) e h =
-        let k : length s - length rest ≡ at = cc in
-        let p = rest-at n s rs rest e in
-        record { raws = rs; rest = e ∙ ap (split rs) (sym (p .1) ∙ ap (λ (m : ℕ). drop m s) k); within = omega arith }
-
-module _ (n : ℕ) (s : List ℕ) (at : ℕ) (ends : placeOf (length s) (splitOf n s) ≡ At at) where
-  pub set-whole : whole (splitOf n s) ≡ true
-  set-whole = rw (parts n s at ends .rest)
-
-  pub set-within : at ≤ length s
-  set-within = parts n s at ends .within
-
-  pub set-unfit : (operation : SetOperation) (e : ℕ) → restFits e (drop at s) ≡ false → judgedFrame (framedSplit operation e (splitOf n s)) ≡ refused Operation
-  set-unfit operation e h = rw (parts n s at ends .rest, h)
-
-  pub set-fit : (operation : SetOperation) (e : ℕ) → All Octet s → restFits e (drop at s) ≡ true
-      → verdictOf operation (judgedSplit judgeStart (splitOf n s)) ≡ judgedFrame (framedSplit operation e (splitOf n s))
-  set-fit operation e a h =
-      let p = parts n s at ends in
-      rw (p .rest, h) (verdict-entries operation (p .raws) (narrow-precedences n s (p .raws) (drop at s) a (p .rest)))
+  pub filters-judged : All Octet s → verdictOf operation (judgedSplit judgeStart (splitOf n (drop 1 s))) ≡ judgedFrame (framedOf s)
+  filters-judged h =
+      rw (f .there, f .framed) (verdict-entries operation (f .raws) (narrow-precedences n (drop 1 s) (f .raws) (f .rest) (all-drop Octet 1 s h) (f .there)))

@@ -4,6 +4,7 @@ pub mod Typed
 mod Reading
 mod Ending
 mod Splitting
+mod Frames
 mod Offsets
 pub mod Stepping
 mod Held

@@ -114,6 +114,27 @@ pub rest-at : (n : ℕ) (xs : List ℕ) (rs : List Raw) (rest : List ℕ) → sp
     → (length rest ≤ length xs) × (drop (length xs - length rest) xs ≡ rest)
 rest-at n xs rs rest e = rw e at (ends n xs)
 
+-- ---- as many filters as were asked for
+abbrev Counted : ℕ → Split → Type 0
+Counted n cut = Unit {0}
+Counted n (split rs rest) = length rs ≡ n
+
+counted : (n : ℕ) (xs : List ℕ) → Counted n (splitOf n xs)
+unfolding splitOf
+counted zero xs = refl
+counted (suc n) [] = tt
+counted (suc n) (a ∷ []) = tt
+counted (suc n) (a ∷ p ∷ []) = tt
+counted (suc n) (a ∷ p ∷ l ∷ xs) = go (leb l (length xs)) (splitOf n (drop l xs)) (counted n (drop l xs))
+  where
+    go : (b : Bool) (q : Split) → Counted n q → Counted (suc n) (pick b (after (record { first = a; precedence = p; contents = take l xs }) q) cut)
+    go true cut e = tt
+    go true (split rs rest) e = ap suc e
+    go false q e = tt
+
+pub split-count : (n : ℕ) (xs : List ℕ) (rs : List Raw) (rest : List ℕ) → splitOf n xs ≡ split rs rest → length rs ≡ n
+split-count n xs rs rest e = rw e at (counted n xs)
+
 -- ---- octets give precedences below 256
 abbrev Narrow : Split → Type 0
 Narrow cut = Unit {0}

@@ -37,13 +37,15 @@ use Rattle.element.specs.declared.contents.Step.{Step}
 use Rattle.element.specs.declared.contents.Step.the-variants.{Halt, Next}
 use Rattle.element.specs.declared.framing.Place.{Place}
 use Rattle.element.specs.declared.framing.Place.the-variants.{Cut, At}
+use Rattle.element.specs.declared.framing.Frame.{Frame}
+use Rattle.element.specs.declared.framing.Frame.the-variants.{NotFramed, Filters as FiltersFrame, Identifiers as IdentifiersFrame, Bare as BareFrame}
 use Rattle.element.specs.declared.judge.Judged.{Judged}
 use Rattle.element.specs.declared.survey.Survey.{Survey}
 use Rattle.element.specs.declared.fields.Field.{Field}
 use Rattle.element.specs.declared.fields.Field.the-variants.{No, Narrow, Wide}
 use Rattle.element.specs.Read.{noFilters, noMarks, refused, codedOf}
 use Rattle.element.specs.Contents.{lengthOf, known, componentOf}
-use Rattle.element.specs.Framing.{Raw, identifierOf, Split, cut, split}
+use Rattle.element.specs.Framing.{Raw, identifierOf, Split, cut, split, Framed, notFramed, filters, identifiers, bare}
 use Rattle.element.specs.Write.{addressBytes, entryOctets}
 
 -- ---- the table of lengths: each of its 256 entries is its type's length, the longest that of an IPv6 address and its mask
@@ -69,6 +71,13 @@ partEnd s at skip = pick (ltb (at + skip) (length s)) (partBy (length s) (at + s
 abbrev pub placeOf : ℕ → Split → Place
 placeOf total cut = Cut
 placeOf total (split rs rest) = At (total - length rest)
+
+-- how a value is framed, with the count of its list
+abbrev pub frameOf : Framed → Frame
+frameOf notFramed = NotFramed
+frameOf (filters operation rs) = FiltersFrame operation (length rs)
+frameOf (identifiers xs) = IdentifiersFrame (length xs)
+frameOf (bare operation) = BareFrame operation
 
 abbrev pub whole : Split → Bool
 whole cut = false

@@ -1,14 +1,33 @@
-// How a value's octets are framed: where its filters end, and whether what is left is what E says.
+// How a value's octets are framed: which list of entries they are, and that it ends where E says.
 ghost use mathlib.Core.Path.{_≡_};
 ghost use Prim.Native.Nat.{_≤_};
 ghost use lib.ListN.{length};
-ghost use Rattle.element.specs.Framing.{splitOf, parameters, restFits};
-ghost use Rattle.element.specs.Walk.{partEnd, placeOf};
+ghost use Rattle.element.specs.Framing.{splitOf, parameters, restFits, framedSet, framedIdentifiers, framedBare, framedBy, framedOf};
+ghost use Rattle.element.specs.Walk.{partEnd, placeOf, frameOf};
+use crate::answer::BareOperation;
+use crate::answer::SetOperation;
+use crate::head::ADD;
+use crate::head::CREATE;
+use crate::head::DELETE_FILTERS;
+use crate::head::DELETE_TFT;
+use crate::head::NO_OPERATION;
+use crate::head::REPLACE;
+use crate::head::count_in;
+use crate::head::extension_in;
+use crate::head::operation_in;
 use crate::octets::wide;
 
 pub enum Place {
     Cut,
     At(usize),
+}
+
+// A list of filters or of identifiers comes with its count.
+pub enum Frame {
+    NotFramed,
+    Filters(SetOperation, u8),
+    Identifiers(u8),
+    Bare(BareOperation),
 }
 
 // The end of the part at `at`: `skip` octets, its length, as many octets.
@@ -69,7 +88,7 @@ fn parameters_fit(s: &[u8]) -> bool
     true
 }
 
-pub(crate) fn rest_fits(e: u8, s: &[u8]) -> bool
+fn rest_fits(e: u8, s: &[u8]) -> bool
     ensures { λ r. ⌜ r ≡ restFits e (now (s .entry)) ⌝ }
 {
     if e == 0 {
@@ -79,4 +98,79 @@ pub(crate) fn rest_fits(e: u8, s: &[u8]) -> bool
         return false;
     }
     parameters_fit(s)
+}
+
+fn frame_filters(operation: SetOperation, e: u8, n: u8, s: &[u8]) -> Frame
+    ensures { λ r. ⌜ r ≡ frameOf (framedSet operation e n (now (s .entry))) ⌝ }
+{
+    if n == 0 {
+        return Frame::NotFramed;
+    }
+    let end = entries_end(s, n);
+    match end {
+        Place::Cut => Frame::NotFramed,
+        Place::At(at) => {
+            if !rest_fits(e, &s[at..]) {
+                return Frame::NotFramed;
+            }
+            Frame::Filters(operation, n)
+        }
+    }
+}
+
+fn frame_identifiers(e: u8, n: u8, s: &[u8]) -> Frame
+    ensures { λ r. ⌜ r ≡ frameOf (framedIdentifiers e n (now (s .entry))) ⌝ }
+{
+    if n == 0 {
+        return Frame::NotFramed;
+    }
+    let end = wide(n);
+    if s.len() < end {
+        return Frame::NotFramed;
+    }
+    if !rest_fits(e, &s[end..]) {
+        return Frame::NotFramed;
+    }
+    Frame::Identifiers(n)
+}
+
+fn frame_bare(operation: BareOperation, e: u8, n: u8, s: &[u8]) -> Frame
+    ensures { λ r. ⌜ r ≡ frameOf (framedBare operation e n (now (s .entry))) ⌝ }
+{
+    if n != 0 {
+        return Frame::NotFramed;
+    }
+    if !rest_fits(e, s) {
+        return Frame::NotFramed;
+    }
+    Frame::Bare(operation)
+}
+
+fn frame_by(operation: u8, e: u8, n: u8, s: &[u8]) -> Frame
+    ensures { λ r. ⌜ r ≡ frameOf (framedBy operation e n (now (s .entry))) ⌝ }
+{
+    match operation {
+        CREATE => frame_filters(SetOperation::Create, e, n, s),
+        DELETE_TFT => frame_bare(BareOperation::DeleteTft, e, n, s),
+        ADD => frame_filters(SetOperation::Add, e, n, s),
+        REPLACE => frame_filters(SetOperation::Replace, e, n, s),
+        DELETE_FILTERS => frame_identifiers(e, n, s),
+        NO_OPERATION => frame_bare(BareOperation::NoOperation, e, n, s),
+        _ => Frame::NotFramed,
+    }
+}
+
+pub(crate) fn frame_of(value: &[u8]) -> Frame
+    ensures { λ r. ⌜ r ≡ frameOf (framedOf (now (value .entry))) ⌝ }
+{
+    if value.len() == 0 {
+        return Frame::NotFramed;
+    }
+    let first = value[0];
+    frame_by(
+        operation_in(first),
+        extension_in(first),
+        count_in(first),
+        &value[1..],
+    )
 }

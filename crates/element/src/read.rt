@@ -1,45 +1,21 @@
 // The reader.
 ghost use mathlib.Core.Path.{_≡_};
-ghost use Prim.Native.Nat.{_≤_, _<_};
-ghost use lib.ListN.{length, take};
 ghost use Rattle.element.specs.Numbers.{numberOf};
-ghost use Rattle.element.specs.Read.{noMarks, marked, judgedFrame, readElement};
-ghost use Rattle.element.specs.Framing.{framedSet, framedIdentifiers, framedBare, framedBy};
+ghost use Rattle.element.specs.Read.{noMarks, marked, identifierSet, readElement};
 use crate::answer::Answer;
-use crate::answer::BareOperation;
 use crate::answer::Cause;
 use crate::answer::Element;
-use crate::answer::SetOperation;
 use crate::answer::number;
 use crate::answer::refuse;
 use crate::answer::without_sets;
-use crate::framing::Place;
-use crate::framing::entries_end;
-use crate::framing::rest_fits;
+use crate::framing::Frame;
+use crate::framing::frame_of;
 use crate::head::LONGEST;
 use crate::judge::judge_all;
 use crate::judge::verdict;
 use crate::octets::wide;
 use filter::Filter;
 use filter::component::PLACES;
-
-fn read_set(operation: SetOperation, e: u8, n: u8, s: &[u8]) -> Element
-    ensures { λ r. ⌜ r ≡ judgedFrame (framedSet operation e n (now (s .entry))) ⌝ }
-{
-    if n == 0 {
-        return refuse(Cause::Operation);
-    }
-    let end = entries_end(s, n);
-    match end {
-        Place::Cut => refuse(Cause::Operation),
-        Place::At(at) => {
-            if !rest_fits(e, &s[at..]) {
-                return refuse(Cause::Operation);
-            }
-            verdict(operation, judge_all(s, n))
-        }
-    }
-}
 
 // The identifiers of all the octets of s.
 fn mark_all(s: &[u8]) -> [bool; PLACES]
@@ -55,63 +31,32 @@ fn mark_all(s: &[u8]) -> [bool; PLACES]
     marks
 }
 
-fn read_identifiers(e: u8, n: u8, s: &[u8]) -> Element
-    ensures { λ r. ⌜ r ≡ judgedFrame (framedIdentifiers e n (now (s .entry))) ⌝ }
+fn identifier_set(s: &[u8]) -> Element
+    ensures { λ r. ⌜ r ≡ identifierSet (now (s .entry)) ⌝ }
 {
-    if n == 0 {
-        return refuse(Cause::Operation);
-    }
-    let end = wide(n);
-    if s.len() < end {
-        return refuse(Cause::Operation);
-    }
-    if !rest_fits(e, &s[end..]) {
-        return refuse(Cause::Operation);
-    }
     Element {
         answer: Answer::Identifiers,
         filters: [Filter::bare(0, 0); PLACES],
-        marks: mark_all(&s[..end]),
-    }
-}
-
-fn read_bare(operation: BareOperation, e: u8, n: u8, s: &[u8]) -> Element
-    ensures { λ r. ⌜ r ≡ judgedFrame (framedBare operation e n (now (s .entry))) ⌝ }
-{
-    if n != 0 {
-        return refuse(Cause::Operation);
-    }
-    if !rest_fits(e, s) {
-        return refuse(Cause::Operation);
-    }
-    without_sets(Answer::Bare(operation))
-}
-
-fn read_by(operation: u8, e: u8, n: u8, s: &[u8]) -> Element
-    ensures { λ r. ⌜ r ≡ judgedFrame (framedBy operation e n (now (s .entry))) ⌝ }
-{
-    match operation {
-        1 => read_set(SetOperation::Create, e, n, s),
-        2 => read_bare(BareOperation::DeleteTft, e, n, s),
-        3 => read_set(SetOperation::Add, e, n, s),
-        4 => read_set(SetOperation::Replace, e, n, s),
-        5 => read_identifiers(e, n, s),
-        6 => read_bare(BareOperation::NoOperation, e, n, s),
-        _ => refuse(Cause::Operation),
+        marks: mark_all(s),
     }
 }
 
 pub fn read(value: &[u8]) -> Element
     ensures { λ r. ⌜ r ≡ readElement (now (value .entry)) ⌝ }
 {
-    if value.len() == 0 {
-        return refuse(Cause::Operation);
-    }
     if LONGEST < value.len() {
         return refuse(Cause::Operation);
     }
-    let first = value[0];
-    read_by(first / 32, first / 16 % 2, first % 16, &value[1..])
+    let frame = frame_of(value);
+    match frame {
+        Frame::NotFramed => refuse(Cause::Operation),
+        Frame::Filters(operation, n) => verdict(operation, judge_all(&value[1..], n)),
+        Frame::Identifiers(n) => {
+            let end = 1 + wide(n);
+            identifier_set(&value[1..end])
+        }
+        Frame::Bare(operation) => without_sets(Answer::Bare(operation)),
+    }
 }
 
 // How one element reads, for the stack's C side: 0, or the reader's cause.
