@@ -1,10 +1,8 @@
 -- Document 01's sample elements that concern the reader, and some limits: a single list under a single claim, computed. Then what is handed out step by step.
 use mathlib.Core.Path.{_≡_, refl}
-use mathlib.Core.Bool.{true, false, not, _&&_, _||_}
-use mathlib.Core.List.{List, [], _∷_, _++_, map}
+use mathlib.Core.List.{List, [], _∷_, _++_}
 use Prim.Native.Nat.{ℕ, zero, suc}
-use lib.Dec.{eqb}
-use lib.ListN.{length, replicate}
+use lib.ListN.{replicate}
 use Rattle.laws.specs.Numbers.{sameUnder}
 use Rattle.laws.specs.Octets.{beFrom, beBytes}
 use Rattle.laws.specs.Lists.{every, isIn, repeats}
@@ -16,7 +14,7 @@ use Rattle.element.specs.declared.answer.Cause.the-variants.{Operation}
 use Rattle.element.specs.declared.entries.Handed.{Handed}
 use Rattle.element.specs.declared.entries.Handed.the-variants.{Filter, Identifier, Refused, End}
 use Rattle.element.specs.Numbers.{numberOf}
-use Rattle.element.specs.Entries.{startOf, passed, listEnd, entryAt, afterAt}
+use Rattle.element.specs.Entries.{placedFilters, placedIdentifiers, placedOf, startOf, placedAt, lookAt, afterAt}
 use Rattle.element.specs.Read.{noFilters, noMarks, codedOf, entriesOf, twice, laid, marked, readValue, readElement}
 use Rattle.element.specs.Contents.{lengthOf, componentOf, contentsFrom, contentsOf}
 use Rattle.element.specs.Framing.{splitOf, parameters, restFits, framedBy, framedOf}
@@ -78,7 +76,7 @@ examples = refl
 -- the first n steps
 stepsFrom : ℕ → List ℕ → ℕ → List Handed
 stepsFrom zero xs at = []
-stepsFrom (suc n) xs at = entryAt xs at ∷ stepsFrom n xs (afterAt xs at)
+stepsFrom (suc n) xs at = lookAt xs at ∷ stepsFrom n xs (afterAt xs at)
 
 abbrev steps : ℕ → List ℕ → List Handed
 steps n xs = stepsFrom n xs (startOf xs)
@@ -92,5 +90,20 @@ handed-out : steps 5 (0xB3 ∷ 0xF5 ∷ 0x01 ∷ 0x05 ∷ 0x07 ∷ 0x00 ∷ [])
     ++ (End ∷ [])
     ++ (Refused (record { cause = Operation }) ∷ Refused (record { cause = Operation }) ∷ [])
     ++ (Filter 5 (added (bare 10 3) (protocol 17)) ∷ Filter 1 (added (bare 11 1) (protocol 6)) ∷ End ∷ [])
-unfolding stepsFrom startOf passed listEnd entryAt afterAt sameUnder beFrom every isIn repeats excluded added validHeader agreesTransport agreesNetwork fits sample fittable noFilters noMarks lengthOf componentOf contentsFrom contentsOf splitOf parameters restFits framedBy framedOf codedOf entriesOf twice laid marked readValue readElement
+unfolding stepsFrom placedFilters placedIdentifiers placedOf startOf placedAt lookAt afterAt sameUnder beFrom every isIn repeats excluded added validHeader agreesTransport agreesNetwork fits sample fittable noFilters noMarks lengthOf componentOf contentsFrom contentsOf splitOf parameters restFits framedBy framedOf codedOf entriesOf twice laid marked readValue readElement
 handed-out = refl
+
+-- what is looked at from an offset on, octet by octet
+looksFrom : ℕ → List ℕ → ℕ → List Handed
+looksFrom zero xs at = []
+looksFrom (suc n) xs at = lookAt xs at ∷ looksFrom n xs (suc at)
+
+-- two filters of five octets each, three identifiers and a parameter, a cause: inside an entry, past the list and at octet 1 there is the end
+at-offsets : looksFrom 12 (0x22 ∷ 0x35 ∷ 0x0A ∷ 0x02 ∷ 0x30 ∷ 0x11 ∷ 0x11 ∷ 0x0B ∷ 0x02 ∷ 0x30 ∷ 0x06 ∷ []) 0
+    ++ looksFrom 6 (0xB3 ∷ 0xF5 ∷ 0x01 ∷ 0x05 ∷ 0x07 ∷ 0x00 ∷ []) 0
+    ++ looksFrom 2 (0xA2 ∷ 0x01 ∷ []) 0
+    ≡ (End ∷ Filter 5 (added (bare 10 3) (protocol 17)) ∷ End ∷ End ∷ End ∷ End ∷ Filter 1 (added (bare 11 1) (protocol 6)) ∷ End ∷ End ∷ End ∷ End ∷ End ∷ [])
+    ++ (End ∷ Identifier 5 ∷ Identifier 1 ∷ Identifier 5 ∷ End ∷ End ∷ [])
+    ++ (Refused (record { cause = Operation }) ∷ End ∷ [])
+unfolding looksFrom placedFilters placedIdentifiers placedOf placedAt lookAt sameUnder beFrom every isIn repeats excluded added validHeader agreesTransport agreesNetwork fits sample fittable noFilters noMarks lengthOf componentOf contentsFrom contentsOf splitOf parameters restFits framedBy framedOf codedOf entriesOf twice laid marked readValue readElement
+at-offsets = refl

@@ -2,14 +2,13 @@
 use mathlib.Core.Path.{_≡_, refl, sym, ap, _∙_}
 use mathlib.Core.Bool.{Bool, true, false, not, _&&_}
 use mathlib.Core.List.{List, [], _∷_}
-use Prim.Native.Nat.{ℕ, _+_, _-_, _≤_, _<_}
+use Prim.Native.Nat.{ℕ, _+_, _-_, _≤_}
 use native.Mathlib.Omega.{arith}
 use lib.Dec.{eqb, leb}
-use lib.ListN.{length, take, drop, getD}
+use lib.ListN.{length, take, drop}
 use lib.Seq.{length-take-le}
-use borrow.Author.Tests.{eqb-true, leb-true}
+use borrow.Author.Tests.{leb-true}
 use Rattle.laws.specs.Says.{pick}
-use Rattle.laws.proofs.Tests.{both}
 use Rattle.element.specs.declared.answer.SetOperation.{SetOperation}
 use Rattle.element.specs.declared.answer.SetOperation.the-variants.{Create, Add, Replace}
 use Rattle.element.specs.declared.answer.BareOperation.{BareOperation}
@@ -130,6 +129,9 @@ pub record FiltersFramed (s : List ℕ) (operation : SetOperation) (n : ℕ) : T
   pub rest : List ℕ
   pub there : splitOf n (drop 1 s) ≡ split raws rest
   pub framed : framedOf s ≡ filters operation raws
+
+pub filters-whole : (s : List ℕ) (operation : SetOperation) (n : ℕ) → FiltersFramed s operation n → whole (splitOf n (drop 1 s)) ≡ true
+filters-whole s operation n f = rw (f .there)
 
 pub record IdentifiersFramed (s : List ℕ) (n : ℕ) : Type 0 where
   pub few : 1 + n ≤ length s

@@ -1,5 +1,5 @@
 -- The filters judged one after the other, each decoded once, are judged as the reader's steps 7, 8 and 9 say, each over every filter.
-use mathlib.Core.Path.{_≡_, refl, sym, ap, _∙_}
+use mathlib.Core.Path.{_≡_, refl, sym, _∙_}
 use mathlib.Core.Bool.{Bool, true, false, not, _&&_, _||_, or-false}
 use mathlib.Core.List.{List, [], _∷_, map}
 use Prim.Native.Nat.{ℕ, zero, suc, _<_}
@@ -18,7 +18,7 @@ use Rattle.element.specs.declared.judge.Judged.{Judged}
 use Rattle.element.specs.Read.{noFilters, noMarks, Entry, precedenceOf, fits, codedOf, Entries, badly, coded, withEntry, entriesOf, twice, laid, judgedEntries, judgedFrame}
 use Rattle.element.specs.Contents.{lengthOf, known, componentOf, contentsFrom, contentsOf}
 use Rattle.element.specs.Framing.{Raw, identifierOf, directionOf, splitOf, framedOf}
-use Rattle.element.specs.Walk.{whole, noPrecedences, judgeStart, judgedWith, judgedRaw, judgedSplit, verdictOf}
+use Rattle.element.specs.Walk.{noPrecedences, judgeStart, judgedWith, judgedRaw, judgedSplit, verdictOf}
 use Rattle.element.specs.Meaning.{Octet}
 use Rattle.element.proofs.Splitting.{OctetPrecedence, narrow-precedences}
 use Rattle.element.proofs.Frames.{FiltersFramed}
@@ -196,9 +196,6 @@ verdict-entries operation rs h = judged-verdict operation (fold judgedRaw judgeS
 
 -- ---- the filters of a framed value
 module _ (s : List ℕ) (operation : SetOperation) (n : ℕ) (f : FiltersFramed s operation n) where
-  pub filters-whole : whole (splitOf n (drop 1 s)) ≡ true
-  filters-whole = rw (f .there)
-
   pub filters-judged : All Octet s → verdictOf operation (judgedSplit judgeStart (splitOf n (drop 1 s))) ≡ judgedFrame (framedOf s)
   filters-judged h =
       rw (f .there, f .framed) (verdict-entries operation (f .raws) (narrow-precedences n (drop 1 s) (f .raws) (f .rest) (all-drop Octet 1 s h) (f .there)))

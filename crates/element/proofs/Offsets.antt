@@ -1,90 +1,212 @@
--- Laws of the offsets at which entries begin and end.
-use mathlib.Core.Path.{_≡_, refl, _∙_}
-use mathlib.Core.Bool.{Bool, true, false, _&&_}
+-- Laws of the entries' offsets: what begins at an offset, and what is found where nothing does.
+use mathlib.Core.Path.{_≡_, refl, sym, ap, _∙_, subst}
+use mathlib.Core.Bool.{Bool, true, false, false≢true, _&&_, _||_}
 use mathlib.Core.List.{List, [], _∷_}
-use Prim.Native.Nat.{ℕ, _+_, _-_, _%_, _≤_, _<_}
+use Prim.Native.Nat.{ℕ, zero, suc, _+_, _-_, _≤_, _<_}
 use native.Mathlib.Omega.{arith}
 use lib.Dec.{eqb, leb}
-use lib.ListN.{length, drop, getD, length-drop}
-use borrow.Author.Tests.{leb-true}
+use lib.ListN.{length, take, drop, getD, length-drop}
+use lib.Seq.{length-take-le}
+use borrow.Author.Tests.{eqb-true, eqb-false, eq-eqb, ne-eqb, leb-true, leb-false}
 use Rattle.laws.specs.Says.{pick}
-use Rattle.element.specs.declared.framing.Place.the-variants.{Cut, At}
-use Rattle.element.specs.Framing.{Split, cut, split, splitOf}
-use Rattle.element.specs.declared.contents.Coded.{Coded}
-use Rattle.element.specs.declared.entries.Handed.the-variants.{End}
+use Rattle.laws.specs.Lists.{All}
+use Rattle.laws.proofs.Parts.{drop-next}
+use Rattle.laws.proofs.Tests.{both}
+use Rattle.element.specs.declared.answer.SetOperation.{SetOperation}
+use Rattle.element.specs.declared.answer.BareOperation.{BareOperation}
+use Rattle.element.specs.declared.framing.Frame.the-variants.{NotFramed, Bare}
+use Rattle.element.specs.declared.entries.Handed.the-variants.{Identifier, End}
+use Rattle.element.specs.Framing.{Raw, identifierIn, Split, cut, split, after, splitOf, Framed, notFramed, filters, identifiers, bare, framedOf}
 use Rattle.element.specs.Read.{codedOf}
-use Rattle.element.specs.Walk.{placeOf, partEnd, rawAt}
-use Rattle.element.specs.Head.{operationOf}
-use Rattle.element.specs.Entries.{hasFilters, restAt, passed, listEnd, codedFilter, firstFilter}
-use Rattle.element.proofs.Splitting.{rest-at, split-inside}
-use Rattle.element.proofs.Ending.{filter-next}
+use Rattle.element.specs.Entries.{Placed, codedFilter, placedFilter, placedFilters, placedIdentifiers, placedIn, placedOf, placedAt, afterAt}
+use Rattle.element.specs.Walk.{frameOf, rawAt, whole, placedSplit, beginsAt}
+use Rattle.element.proofs.Splitting.{split-inside, split-next, whole-after}
+use Rattle.element.proofs.Frames.{FiltersFramed, IdentifiersFramed, not-framed, bare-framed}
 
--- ---- n filters from an offset on
-module _ (s : List ℕ) (at n : ℕ) where
-  pub rest-cut : placeOf (length (drop at s)) (splitOf n (drop at s)) ≡ Cut → restAt (length s) at (splitOf n (drop at s)) ≡ at
-  rest-cut = go (splitOf n (drop at s))
+abbrev pub nothingAt : ℕ → Placed
+nothingAt at = record { at = at; after = at; entry = End }
+
+-- ---- where no entry begins
+pub nothing-begins : (ps : List Placed) (at : ℕ) → beginsAt ps at ≡ false → placedAt ps at ≡ nothingAt at
+unfolding beginsAt placedAt
+nothing-begins [] at h = refl
+nothing-begins (p ∷ ps) at h = go (eqb (p .at) at) (nothing-begins ps at) h
+  where
+    go : (b : Bool) → (beginsAt ps at ≡ false → placedAt ps at ≡ nothingAt at) → b || beginsAt ps at ≡ false → pick b p (placedAt ps at) ≡ nothingAt at
+    go true rec h = absurd (false≢true (sym h))
+    go false rec h = rec h
+
+pub nothing-there : (ps : List Placed) (at : ℕ) → All (λ p. p .at ≡ at → ⊥) ps → placedAt ps at ≡ nothingAt at
+unfolding placedAt
+nothing-there [] at h = refl
+nothing-there (p ∷ ps) at h = rw (ne-eqb (p .at) at (h .0)) (nothing-there ps at (h .1))
+
+-- ---- each entry begins where the one before it ends
+abbrev pub Chained : ℕ → List Placed → Type 0
+Chained at [] = Unit {0}
+Chained at (p ∷ ps) = (p .at ≡ at) × (at < p .after) × Chained (p .after) ps
+
+filters-chained : (at : ℕ) (rs : List Raw) → Chained at (placedFilters at rs)
+unfolding placedFilters
+filters-chained at [] = tt
+filters-chained at (r ∷ rs) = (refl, omega arith, filters-chained (placedFilter at r .after) rs)
+
+identifiers-chained : (at : ℕ) (xs : List ℕ) → Chained at (placedIdentifiers at xs)
+unfolding placedIdentifiers
+identifiers-chained at [] = tt
+identifiers-chained at (x ∷ xs) = (refl, omega arith, identifiers-chained (at + 1) xs)
+
+pub placed-chained : (F : Framed) → Chained 1 (placedIn F)
+placed-chained notFramed = tt
+placed-chained (filters operation rs) = filters-chained 1 rs
+placed-chained (identifiers xs) = identifiers-chained 1 xs
+placed-chained (bare operation) = tt
+
+pub nothing-before : (ps : List Placed) (from at : ℕ) → Chained from ps → at < from → placedAt ps at ≡ nothingAt at
+unfolding placedAt
+nothing-before [] from at h l = refl
+nothing-before (p ∷ ps) from at h l =
+    let e = h .0 in
+    let m = h .1 in
+    rw (ne-eqb (p .at) at (λ q. omega arith)) (nothing-before ps (p .after) at (h .2) (omega arith))
+
+-- ---- the filter at an offset, from the octets there
+abbrev pub filterAt : List ℕ → ℕ → Placed
+filterAt s at = record { at = at; after = at + 3 + getD s (at + 2) 0; entry = codedFilter (identifierIn (getD s at 0)) (codedOf (rawAt s at)) }
+
+module _ (s : List ℕ) where
+  module _ (n at : ℕ) (there : whole (splitOf (suc n) (drop at s)) ≡ true) where
+    inside : (at + 3 ≤ length s) × (at + 3 + getD s (at + 2) 0 ≤ length s)
+    inside = split-inside n s at there
+
+    later : Split
+    later = splitOf n (drop (at + 3 + getD s (at + 2) 0) s)
+
+    first : splitOf (suc n) (drop at s) ≡ after (rawAt s at) later
+    unfolding later
+    first = split-next n s at (inside .0) (inside .1)
+
+    pub later-whole : whole (splitOf n (drop (at + 3 + getD s (at + 2) 0) s)) ≡ true
+    unfolding later
+    later-whole = sym (ap whole first ∙ whole-after (rawAt s at) later) ∙ there
+
+    long : length (rawAt s at .contents) ≡ getD s (at + 2) 0
+    long =
+        let h = inside .1 in
+        length-take-le (getD s (at + 2) 0) (drop (at + 3) s) (simp length-drop (omega arith))
+
+    pub first-placed : placedSplit at (splitOf (suc n) (drop at s)) ≡ filterAt s at ∷ placedSplit (at + 3 + getD s (at + 2) 0) (splitOf n (drop (at + 3 + getD s (at + 2) 0) s))
+    unfolding placedFilters later
+    first-placed = ap (placedSplit at) first ∙ (go later later-whole ∙ rw long)
+      where
+        go : (q : Split) → whole q ≡ true → placedSplit at (after (rawAt s at) q) ≡ placedFilter at (rawAt s at) ∷ placedSplit (placedFilter at (rawAt s at) .after) q
+        go cut h = absurd (false≢true h)
+        go (split rs rest) h = refl
+
+  -- a turn of a walk over n filters, of which i are passed and the next begins at `from`, with l octets of contents
+  module _ (n i from at : ℕ) (more : i < n) (there : whole (splitOf (n - i) (drop from s)) ≡ true) where
+    left : n - i ≡ suc (n - (i + 1))
+    left = omega arith
+
+    turn : beginsAt (placedSplit from (splitOf (n - i) (drop from s))) at
+        ≡ eqb from at || beginsAt (placedSplit (from + 3 + getD s (from + 2) 0) (splitOf (n - (i + 1)) (drop (from + 3 + getD s (from + 2) 0) s))) at
+    unfolding beginsAt
+    turn = rw (left, first-placed (n - (i + 1)) from (rw left at there))
+
+    pub turn-found : from ≡ at → beginsAt (placedSplit from (splitOf (n - i) (drop from s))) at ≡ true
+    turn-found e = turn ∙ rw (eq-eqb from at e)
+
+    pub turn-passed : (from ≡ at → ⊥) → (l : ℕ) → l ≡ getD s (from + 2) 0
+        → beginsAt (placedSplit (from + 3 + l) (splitOf (n - (i + 1)) (drop (from + 3 + l) s))) at ≡ beginsAt (placedSplit from (splitOf (n - i) (drop from s))) at
+    turn-passed e l long = rw long (sym (turn ∙ rw (ne-eqb from at e)))
+
+  -- where one of n filters begins
+  pub record Begun (ps : List Placed) (at : ℕ) : Type 0 where
+    pub inside : (at + 3 ≤ length s) × (at + 3 + getD s (at + 2) 0 ≤ length s)
+    pub found : placedAt ps at ≡ filterAt s at
+
+  pub begun : (n from at : ℕ) → whole (splitOf n (drop from s)) ≡ true → beginsAt (placedSplit from (splitOf n (drop from s))) at ≡ true
+      → Begun (placedSplit from (splitOf n (drop from s))) at
+  unfolding splitOf placedFilters beginsAt placedAt
+  begun zero from at w h = absurd (false≢true h)
+  begun (suc n) from at w h =
+      subst (λ (ps : List Placed). beginsAt ps at ≡ true → Begun ps at) (sym (first-placed n from w))
+      (go (eqb from at) refl (begun n (from + 3 + getD s (from + 2) 0) at (later-whole n from w))) h
     where
-      go : (q : Split) → placeOf (length (drop at s)) q ≡ Cut → restAt (length s) at q ≡ at
-      go cut h = refl
-      go (split rs rest) h = let z : _≡_ {A = ℕ} 0 1 = cc in absurd (omega arith)
+      ps : List Placed
+      ps = placedSplit (from + 3 + getD s (from + 2) 0) (splitOf n (drop (from + 3 + getD s (from + 2) 0) s))
 
-  pub rest-found : at ≤ length s → (further : ℕ) → placeOf (length (drop at s)) (splitOf n (drop at s)) ≡ At further
-      → (restAt (length s) at (splitOf n (drop at s)) ≡ at + further) × (at + further ≤ length s)
-  rest-found l further = go (splitOf n (drop at s)) refl
+      go : (b : Bool) → eqb from at ≡ b → (beginsAt ps at ≡ true → Begun ps at) → b || beginsAt ps at ≡ true → Begun (filterAt s from ∷ ps) at
+      go true e rec h =
+          let q = eqb-true from at e in
+          subst (λ (k : ℕ). Begun (filterAt s from ∷ ps) k) q (record { inside = inside n from w; found = rw (eq-eqb from from refl) })
+      go false e rec h =
+          let g = rec h in
+          record { inside = g .inside; found = rw e (g .found) }
+
+  -- ---- the identifiers of n octets
+  abbrev pub identifierAt : ℕ → Placed
+  identifierAt at = record { at = at; after = at + 1; entry = Identifier (identifierIn (getD s at 0)) }
+
+  identifier-from : (n from at : ℕ) → from ≤ at → at < from + n → from + n ≤ length s → placedAt (placedIdentifiers from (take n (drop from s))) at ≡ identifierAt at
+  unfolding placedIdentifiers placedAt
+  identifier-from zero from at l m w = absurd (omega arith)
+  identifier-from (suc n) from at l m w = rw (drop-next s from (from + 1) 0 refl (omega arith)) (go (eqb from at) refl (identifier-from n (from + 1) at))
     where
-      go : (q : Split) → splitOf n (drop at s) ≡ q → placeOf (length (drop at s)) q ≡ At further → (restAt (length s) at q ≡ at + further) × (at + further ≤ length s)
-      go cut e h = let z : _≡_ {A = ℕ} 0 1 = cc in absurd (omega arith)
-      go (split rs rest) e h =
-          let k : length (drop at s) - length rest ≡ further = cc in
-          let p = rest-at n (drop at s) rs rest e .0 in
-          let m = length-drop at s in
-          (omega arith, omega arith)
+      ps : List Placed
+      ps = placedIdentifiers (from + 1) (take n (drop (from + 1) s))
 
-  rest-within : at ≤ length s → restAt (length s) at (splitOf n (drop at s)) ≤ length s
-  rest-within l = go (splitOf n (drop at s))
-    where
-      go : (q : Split) → restAt (length s) at q ≤ length s
-      go cut = l
-      go (split rs rest) = omega arith
+      go : (b : Bool) → eqb from at ≡ b → (from + 1 ≤ at → at < from + 1 + n → from + 1 + n ≤ length s → placedAt ps at ≡ identifierAt at)
+          → pick b (identifierAt from) (placedAt ps at) ≡ identifierAt at
+      go true e rec = ap identifierAt (eqb-true from at e)
+      go false e rec =
+          let z = eqb-false from at e in
+          rec (omega arith) (omega arith) (omega arith)
 
-  pub pass-within : at ≤ length s → passed s at n ≤ length s
-  unfolding passed
-  pass-within l = go (hasFilters (operationOf s)) (eqb (operationOf s) 5) (leb (at + n) (length s)) refl
-    where
-      go : (f i t : Bool) → leb (at + n) (length s) ≡ t → pick f (restAt (length s) at (splitOf n (drop at s))) (pick (i && t) (at + n) at) ≤ length s
-      go true i t e = rest-within l
-      go false true true e = leb-true (at + n) (length s) e
-      go false true false e = l
-      go false false t e = l
+  identifier-past : (n from at : ℕ) → from + n ≤ at → from + n ≤ length s → placedAt (placedIdentifiers from (take n (drop from s))) at ≡ nothingAt at
+  unfolding placedIdentifiers placedAt
+  identifier-past zero from at l w = refl
+  identifier-past (suc n) from at l w =
+      rw (drop-next s from (from + 1) 0 refl (omega arith), ne-eqb from at (λ e. omega arith)) (identifier-past n (from + 1) at (omega arith) (omega arith))
 
--- ---- one filter at an offset
-module _ (s : List ℕ) (at : ℕ) where
-  pub filter-cut : partEnd s at 2 ≡ Cut → firstFilter (splitOf 1 (drop at s)) ≡ End
-  filter-cut e = rw (filter-next 0 s at, e)
+  module _ (n at : ℕ) (few : 1 + n ≤ length s) where
+    pub identifier-there : leb 1 at && leb at n ≡ true → placedAt (placedIdentifiers 1 (take n (drop 1 s))) at ≡ identifierAt at
+    identifier-there h =
+        let l = leb-true 1 at (both (leb 1 at) (leb at n) h .0) in
+        let m = leb-true at n (both (leb 1 at) (leb at n) h .1) in
+        identifier-from n 1 at l (omega arith) few
 
-  module _ (next : ℕ) (e : partEnd s at 2 ≡ At next) where
-    pub one-split : splitOf 1 (drop at s) ≡ split (rawAt s at ∷ []) (drop next s)
-    unfolding splitOf
-    one-split = filter-next 0 s at ∙ rw e
+    pub identifier-nowhere : leb 1 at && leb at n ≡ false → placedAt (placedIdentifiers 1 (take n (drop 1 s))) at ≡ nothingAt at
+    identifier-nowhere h = go (leb 1 at) (leb at n) refl refl h
+      where
+        go : (b c : Bool) → leb 1 at ≡ b → leb at n ≡ c → b && c ≡ false → placedAt (placedIdentifiers 1 (take n (drop 1 s))) at ≡ nothingAt at
+        go true true e g h = absurd (false≢true (sym h))
+        go true false e g h =
+            let l = leb-false at n g in
+            identifier-past n 1 at (omega arith) few
+        go false c e g h =
+            let l = leb-false 1 at e in
+            nothing-before _ 1 at (identifiers-chained 1 (take n (drop 1 s))) l
 
-    pub filter-inside : (at + 3 ≤ length s) × (at + 3 + getD s (at + 2) 0 ≤ length s)
-    filter-inside = split-inside 0 s at (rw one-split)
+-- ---- the entries of a value, by its frame
+module _ (s : List ℕ) where
+  pub placed-none : frameOf (framedOf s) ≡ NotFramed → placedOf s ≡ []
+  unfolding placedOf
+  placed-none e = rw (not-framed s e)
 
-    pub filter-one : (r : Coded) → r ≡ codedOf (rawAt s at) → firstFilter (splitOf 1 (drop at s)) ≡ codedFilter (getD s at 0 % 16) r
-    filter-one r h = rw (one-split, h)
+  pub placed-filters : (operation : SetOperation) (n : ℕ) → FiltersFramed s operation n → placedOf s ≡ placedSplit 1 (splitOf n (drop 1 s))
+  unfolding placedOf
+  placed-filters operation n f = rw (f .framed, f .there)
 
--- ---- the end of the list
-pub end-none : (s : List ℕ) → length s ≡ 0 → listEnd s ≡ 0
-unfolding listEnd
-end-none [] h = refl
-end-none (x ∷ s) h = absurd (omega arith)
+  pub placed-identifiers : (n : ℕ) → IdentifiersFramed s n → placedOf s ≡ placedIdentifiers 1 (take n (drop 1 s))
+  unfolding placedOf
+  placed-identifiers n f = rw (f .framed)
 
-pub end-some : (s : List ℕ) → 0 < length s → listEnd s ≡ passed s 1 (getD s 0 0 % 16)
-unfolding listEnd
-end-some [] h = absurd (omega arith)
-end-some (x ∷ s) h = refl
+  pub placed-bare : (operation : BareOperation) → frameOf (framedOf s) ≡ Bare operation → placedOf s ≡ []
+  unfolding placedOf
+  placed-bare operation e = rw (bare-framed s operation e)
 
-pub end-within : (s : List ℕ) → listEnd s ≤ length s
-unfolding listEnd
-end-within [] = omega arith
-end-within (x ∷ s) = pass-within (x ∷ s) 1 (x % 16) (omega arith)
+  -- the offset after what begins at an offset
+  pub after-by : (ps : List Placed) → placedOf s ≡ ps → (at : ℕ) → placedAt ps at .after ≡ afterAt s at
+  unfolding afterAt
+  after-by ps e at = ap (λ (qs : List Placed). placedAt qs at .after) (sym e)

@@ -55,7 +55,7 @@ module _ (n : ℕ) (s : List ℕ) (at : ℕ) where
       )
 
 -- ---- the filters, judged as they stand there
-whole-after : (r : Raw) (q : Split) → whole (after r q) ≡ whole q
+pub whole-after : (r : Raw) (q : Split) → whole (after r q) ≡ whole q
 whole-after r cut = refl
 whole-after r (split rs rest) = refl
 

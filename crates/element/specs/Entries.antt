@@ -1,10 +1,11 @@
--- "a reader that holds the element's bytes and hands out the next entry is wanted too: entries in byte order, repeats included, or at once the cause where the element reads as one"
+-- "a reader that holds the element's bytes and hands out the next entry is wanted too: entries in byte order, repeats included, or at once the cause
+-- where the element reads as one"
 use mathlib.Core.Path.{_≡_}
-use Prim.Native.Nat.{ℕ, zero, suc, _+_, _-_, _/_, _%_}
-use mathlib.Core.Bool.{Bool, true, _&&_, _||_}
+use Prim.Native.Nat.{ℕ, zero, suc, _+_}
+use mathlib.Core.Bool.{Bool, true}
 use mathlib.Core.List.{List, [], _∷_, map}
-use lib.Dec.{eqb, leb, ltb}
-use lib.ListN.{length, drop, getD, set}
+use lib.Dec.{eqb}
+use lib.ListN.{length, getD, set}
 use denote.Ref.{RefT, now}
 use Rattle.laws.specs.Says.{pick}
 use Rattle.laws.specs.Lists.{All, fold}
@@ -17,23 +18,44 @@ use Rattle.element.specs.declared.contents.Coded.{Coded, the-variants.Ba
 use Rattle.element.specs.declared.entries.Handed.{Handed}
 use Rattle.element.specs.declared.entries.Handed.the-variants.{Filter, Identifier, Refused, End}
 use Rattle.element.specs.declared.entries.Entries.{Entries}
-use Rattle.element.specs.Head.{operationOf, create, add, replace, deleteFilters}
-use Rattle.element.specs.Framing.{identifierOf, Split, cut, split, splitOf, Framed, notFramed, filters, identifiers, bare, framedOf}
-use Rattle.element.specs.Read.{noFilters, noMarks, codedOf, Entries as DecodedEntries, badly, coded, entriesOf, readElement}
+use Rattle.element.specs.Framing.{Raw, identifierIn, identifierOf, Framed, notFramed, filters, identifiers, bare, framedOf}
+use Rattle.element.specs.Read.{noFilters, noMarks, codedOf, readElement}
 
--- ---- "entries in byte order, repeats included": all that the reader's definitions find in a framed value
-abbrev pub filtersIn : DecodedEntries → List Handed
-filtersIn badly = []
-filtersIn (coded es) = map (λ e. Filter (e .identifier) (e .filter)) es
+-- ---- "entries in byte order, repeats included": an entry, the offset of its first octet and the offset after it
+pub record Placed : Type 0 where
+  pub at : ℕ
+  pub after : ℕ
+  pub entry : Handed
 
-abbrev pub framedIn : Framed → List Handed
-framedIn notFramed = []
-framedIn (filters operation rs) = filtersIn (entriesOf rs)
-framedIn (identifiers xs) = map (λ x. Identifier (x % 16)) xs
-framedIn (bare operation) = []
+-- "For 1, 3, 4 each filter is": three octets and its contents. A badly coded one is no entry, and the element reads as a cause
+abbrev pub codedFilter : ℕ → Coded → Handed
+codedFilter identifier Badly = End
+codedFilter identifier (Well f) = Filter identifier f
+
+abbrev pub placedFilter : ℕ → Raw → Placed
+placedFilter at r = record { at = at; after = at + 3 + length (r .contents); entry = codedFilter (identifierOf r) (codedOf r) }
+
+unfoldable pub placedFilters : ℕ → List Raw → List Placed
+placedFilters at [] = []
+placedFilters at (r ∷ rs) = placedFilter at r ∷ placedFilters (placedFilter at r .after) rs
+
+-- "For 5 each is one octet, identifier in bits 4 to 1"
+unfoldable pub placedIdentifiers : ℕ → List ℕ → List Placed
+placedIdentifiers at [] = []
+placedIdentifiers at (x ∷ xs) = record { at = at; after = at + 1; entry = Identifier (identifierIn x) } ∷ placedIdentifiers (at + 1) xs
+
+-- octet 1 has offset 0, and the entries begin after it
+abbrev pub placedIn : Framed → List Placed
+placedIn notFramed = []
+placedIn (filters operation rs) = placedFilters 1 rs
+placedIn (identifiers xs) = placedIdentifiers 1 xs
+placedIn (bare operation) = []
+
+unfoldable pub placedOf : List ℕ → List Placed
+placedOf xs = placedIn (framedOf xs)
 
 unfoldable pub handedOut : List ℕ → List Handed
-handedOut xs = framedIn (framedOf xs)
+handedOut xs = map (λ p. p .entry) (placedOf xs)
 
 -- ---- "or at once the cause where the element reads as one": what entry n is, counted from 0; after the last, the end
 abbrev pub nthBy : Answer → List Handed → ℕ → Handed
@@ -55,51 +77,24 @@ startBy (refusedWith refusal) = 0
 unfoldable pub startOf : List ℕ → ℕ
 startOf xs = startBy (readElement xs .answer)
 
--- "For 1, 3, 4 each filter is"
-abbrev pub hasFilters : ℕ → Bool
-hasFilters operation = eqb operation create || eqb operation add || eqb operation replace
-
--- the offset of what is left of the octets; of what is cut, the offset that was
-abbrev pub restAt : ℕ → ℕ → Split → ℕ
-restAt total at cut = at
-restAt total at (split rs rest) = total - length rest
-
--- the offset after n entries from an offset on; that offset, where they are not all there
-unfoldable pub passed : List ℕ → ℕ → ℕ → ℕ
-passed xs at n =
-    pick (hasFilters (operationOf xs)) (restAt (length xs) at (splitOf n (drop at xs)))
-    (pick (eqb (operationOf xs) deleteFilters && leb (at + n) (length xs)) (at + n) at)
-
--- "count in bits 4 to 1": the offset after the last entry
-unfoldable pub listEnd : List ℕ → ℕ
-listEnd [] = 0
-listEnd (x ∷ xs) = passed (x ∷ xs) 1 (x % 16)
-
--- ---- What is handed out at an offset: at 0 the cause; before the end of the list the entry there; else the end
+-- ---- What is handed out at an offset: at 0 the cause, if there is one; at an entry's offset that entry; anywhere else the end
 abbrev pub causeIn : Answer → Handed
 causeIn (Filters operation) = End
 causeIn Identifiers = End
 causeIn (Bare operation) = End
 causeIn (refusedWith refusal) = Refused refusal
 
-abbrev pub codedFilter : ℕ → Coded → Handed
-codedFilter identifier Badly = End
-codedFilter identifier (Well f) = Filter identifier f
+-- the entry that begins at an offset; where none does, the end, which stays there
+unfoldable pub placedAt : List Placed → ℕ → Placed
+placedAt [] at = record { at = at; after = at; entry = End }
+placedAt (p ∷ ps) at = pick (eqb (p .at) at) p (placedAt ps at)
 
-abbrev pub firstFilter : Split → Handed
-firstFilter cut = End
-firstFilter (split [] rest) = End
-firstFilter (split (r ∷ rs) rest) = codedFilter (identifierOf r) (codedOf r)
+unfoldable pub lookAt : List ℕ → ℕ → Handed
+lookAt xs at = pick (eqb at 0) (causeIn (readElement xs .answer)) (placedAt (placedOf xs) at .entry)
 
-abbrev pub oneAt : List ℕ → ℕ → Handed
-oneAt xs at = pick (eqb (operationOf xs) deleteFilters) (Identifier (getD xs at 0 % 16)) (firstFilter (splitOf 1 (drop at xs)))
-
-unfoldable pub entryAt : List ℕ → ℕ → Handed
-entryAt xs at = pick (eqb at 0) (causeIn (readElement xs .answer)) (pick (ltb at (listEnd xs)) (oneAt xs at) End)
-
--- the offset after it; the cause and the end are handed out again and again
+-- the offset after it; the cause and the end stay where they are, and so come again and again
 unfoldable pub afterAt : List ℕ → ℕ → ℕ
-afterAt xs at = pick (eqb at 0) at (pick (ltb at (listEnd xs)) (passed xs at 1) at)
+afterAt xs at = placedAt (placedOf xs) at .after
 
 unfoldable pub afterAll : List ℕ → ℕ → ℕ → ℕ
 afterAll xs at zero = at
@@ -125,10 +120,14 @@ IsEntry (Identifier identifier) = Unit {0}
 IsEntry (Refused refusal) = ⊥
 IsEntry End = ⊥
 
+-- at an offset is this entry, and after it that offset
+abbrev pub Shows : List ℕ → ℕ → Handed → ℕ → Type 0
+Shows xs at entry after = (lookAt xs at ≡ entry) × (afterAt xs at ≡ after)
+
 -- stepping from an offset hands these out in turn, and then the end, again and again
 abbrev pub StepsThrough : List ℕ → ℕ → List Handed → Type 0
-StepsThrough xs at [] = (entryAt xs at ≡ End) × (afterAt xs at ≡ at)
-StepsThrough xs at (h ∷ hs) = (entryAt xs at ≡ h) × StepsThrough xs (afterAt xs at) hs
+StepsThrough xs at [] = Shows xs at End at
+StepsThrough xs at (h ∷ hs) = (lookAt xs at ≡ h) × StepsThrough xs (afterAt xs at) hs
 
 -- a set of filters and one of identifiers, and an entry laid into them
 pub record Sets : Type 0 where
@@ -155,5 +154,10 @@ pub record HandsOutAll (xs : List ℕ) : Type 0 where
 
 -- of an element that does
 pub record HandsOutCause (xs : List ℕ) (refusal : Refusal) : Type 0 where
-  pub cause : entryAt xs (startOf xs) ≡ Refused refusal
+  pub cause : lookAt xs (startOf xs) ≡ Refused refusal
   pub again : afterAt xs (startOf xs) ≡ startOf xs
+
+-- of every value: each entry at its offset, and at an offset that is neither 0 nor an entry's the end
+pub record Everywhere (xs : List ℕ) : Type 0 where
+  pub there : All (λ p. Shows xs (p .at) (p .entry) (p .after)) (placedOf xs)
+  pub elsewhere : (at : ℕ) → (at ≡ 0 → ⊥) → All (λ p. p .at ≡ at → ⊥) (placedOf xs) → Shows xs at End at

@@ -15,8 +15,12 @@ pub record Raw : Type 0 where
   pub precedence : ℕ
   pub contents : List ℕ
 
+-- of that octet, and of each octet of a delete list
+abbrev pub identifierIn : ℕ → ℕ
+identifierIn octet = octet % 16
+
 abbrev pub identifierOf : Raw → ℕ
-identifierOf r = r .first % 16
+identifierOf r = identifierIn (r .first)
 
 abbrev pub directionOf : Raw → ℕ
 directionOf r = r .first / 16 % 4

@@ -1,11 +1,9 @@
 -- What the layer's theorems say, where that is no computation.
 use mathlib.Core.Path.{_≡_}
-use mathlib.Core.Bool.{Bool}
 use mathlib.Core.List.{List}
 use Prim.Native.Nat.{ℕ, _≤_, _<_}
 use lib.ListN.{length}
 use Rattle.laws.specs.Lists.{All, Some, Each}
-use Rattle.filter.specs.declared.component.Filter.{Filter}
 use Rattle.filter.specs.Ranges.{FilterInRange}
 use Rattle.filter.specs.Fittable.{SomePacketFits}
 use Rattle.element.specs.declared.answer.SetOperation.{SetOperation}

@@ -1,5 +1,6 @@
--- The reader. "What the reader gives is one of: a filter set with its operation, an identifier set, a bare operation, or a cause. Its causes are those of steps 4, 6, 7, 8 and 9 below, in that order."
-use Prim.Native.Nat.{ℕ, _%_}
+-- The reader. "What the reader gives is one of: a filter set with its operation, an identifier set, a bare operation, or a cause. Its causes are those of
+-- steps 4, 6, 7, 8 and 9 below, in that order."
+use Prim.Native.Nat.{ℕ}
 use mathlib.Core.Bool.{Bool, true, false, _||_}
 use mathlib.Core.List.{List, [], _∷_, map}
 use lib.Dec.{leb}
@@ -17,7 +18,7 @@ use Rattle.element.specs.declared.answer.Element.{Element}
 use Rattle.element.specs.declared.contents.Coded.{Coded, the-variants.Badly, the-variants.Well}
 use Rattle.element.specs.Head.{longest}
 use Rattle.element.specs.Contents.{contentsOf}
-use Rattle.element.specs.Framing.{Raw, identifierOf, directionOf, Framed, notFramed, filters, identifiers, bare, framedOf}
+use Rattle.element.specs.Framing.{Raw, identifierIn, identifierOf, directionOf, Framed, notFramed, filters, identifiers, bare, framedOf}
 
 unfoldable pub noFilters : List Filter
 noFilters = replicate placeCount emptyFilter
@@ -73,7 +74,7 @@ filterSet operation es = record { answer = Filters operation; filters = laid es 
 -- "repeats are one deletion"
 unfoldable pub marked : List ℕ → List Bool → List Bool
 marked [] marks = marks
-marked (x ∷ xs) marks = marked xs (set marks (x % 16) true)
+marked (x ∷ xs) marks = marked xs (set marks (identifierIn x) true)
 
 abbrev pub identifierSet : List ℕ → Element
 identifierSet xs = record { answer = Identifiers; filters = noFilters; marks = marked xs noMarks }

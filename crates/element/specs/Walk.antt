@@ -46,6 +46,7 @@ use Rattle.element.specs.declared.fields.Field.the-variants.{No, Narrow,
 use Rattle.element.specs.Read.{noFilters, noMarks, refused, codedOf}
 use Rattle.element.specs.Contents.{lengthOf, known, componentOf}
 use Rattle.element.specs.Framing.{Raw, identifierOf, Split, cut, split, Framed, notFramed, filters, identifiers, bare}
+use Rattle.element.specs.Entries.{Placed, placedFilters}
 use Rattle.element.specs.Write.{addressBytes, entryOctets}
 
 -- ---- the table of lengths: each of its 256 entries is its type's length, the longest that of an IPv6 address and its mask
@@ -82,6 +83,16 @@ frameOf (bare operation) = BareFrame operation
 abbrev pub whole : Split → Bool
 whole cut = false
 whole (split rs rest) = true
+
+-- ---- the entries at their offsets
+abbrev pub placedSplit : ℕ → Split → List Placed
+placedSplit at cut = []
+placedSplit at (split rs rest) = placedFilters at rs
+
+-- whether an entry begins at an offset
+unfoldable pub beginsAt : List Placed → ℕ → Bool
+beginsAt [] at = false
+beginsAt (p ∷ ps) at = eqb (p .at) at || beginsAt ps at
 
 -- ---- the filters of a value, one after the other
 abbrev pub rawAt : List ℕ → ℕ → Raw

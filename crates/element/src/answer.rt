@@ -1,6 +1,5 @@
 // What the reader gives and the writer takes.
 ghost use mathlib.Core.Path.{_≡_};
-ghost use mathlib.Core.List.{List};
 ghost use Rattle.element.specs.Numbers.{numberOf};
 ghost use Rattle.element.specs.Read.{withoutSets, refused};
 use filter::Filter;

@@ -1,19 +1,22 @@
 // A reader that holds the element's bytes and hands out the next entry.
 // The work is done on a slice and an offset; the functions over the struct only take it apart and put it together.
 ghost use mathlib.Core.Path.{_≡_};
-ghost use Prim.Native.Nat.{_≤_, _<_};
-ghost use lib.ListN.{length, drop};
+ghost use mathlib.Core.Bool.{true, _&&_};
+ghost use Prim.Native.Nat.{_+_, _≤_};
+ghost use lib.Dec.{leb};
+ghost use lib.ListN.{length, take, drop};
 ghost use Rattle.element.specs.Framing.{splitOf};
 ghost use Rattle.element.specs.Numbers.{handedNumber};
 ghost use Rattle.element.specs.Read.{readElement};
-ghost use Rattle.element.specs.Entries.{nthOf, startOf, hasFilters, restAt, passed, listEnd, causeIn, firstFilter, entryAt, afterAt, afterAll, begun, advancedOf, skippedOf};
+ghost use Rattle.element.specs.Entries.{placedIdentifiers, nthOf, startOf, causeIn, placedAt, lookAt, afterAt, afterAll, begun, advancedOf, skippedOf};
+ghost use Rattle.element.specs.Walk.{whole, placedSplit, beginsAt};
 use crate::answer::Answer;
 use crate::answer::Refusal;
 use crate::answer::number;
 use crate::contents::Coded;
-use crate::framing::Place;
-use crate::framing::entries_end;
-use crate::framing::part_end;
+use crate::framing::Frame;
+use crate::framing::frame_of;
+use crate::framing::identifier_in;
 use crate::judge::coded_at;
 use crate::octets::wide;
 use crate::read::read;
@@ -44,49 +47,62 @@ pub struct Entries<'a> {
     at: usize,
 }
 
-fn has_filters(operation: u8) -> bool
-    ensures { λ r. ⌜ r ≡ hasFilters operation ⌝ }
+// Whether one of the n filters begins at `at`; only their length octets are looked at.
+fn filter_begins(value: &[u8], n: u8, at: usize) -> bool
+    requires { ⌜ whole (splitOf n (drop 1 (now value))) ≡ true ⌝ }
+    ensures { λ r. ⌜ r ≡ beginsAt (placedSplit 1 (splitOf n (drop 1 (now (value .entry))))) at ⌝ }
 {
-    (operation == 1) | (operation == 3) | (operation == 4)
+    let mut first = 1;
+    let mut passed: u8 = 0;
+    while passed < n {
+        if first == at {
+            return true;
+        }
+        first = first + 3 + wide(value[first + 2]);
+        passed += 1;
+    }
+    false
 }
 
-fn pass_filters(value: &[u8], at: usize, n: u8) -> usize
-    requires { ⌜ at ≤ length (now value) ⌝ }
-    ensures { λ r. ⌜ r ≡ restAt (length (now (value .entry))) at (splitOf n (drop at (now (value .entry)))) ⌝ }
+// Each of the n identifiers is one octet.
+fn identifier_begins(n: u8, at: usize) -> bool
+    ensures { λ r. ⌜ r ≡ leb 1 at && leb at n ⌝ }
 {
-    let end = entries_end(&value[at..], n);
-    match end {
-        Place::Cut => at,
-        Place::At(further) => at + further,
+    (1 <= at) & (at <= wide(n))
+}
+
+fn filter_at(value: &[u8], n: u8, at: usize) -> Handed
+    requires { ⌜ whole (splitOf n (drop 1 (now value))) ≡ true ⌝ }
+    ensures { λ r. ⌜ r ≡ placedAt (placedSplit 1 (splitOf n (drop 1 (now (value .entry))))) at .entry ⌝ }
+{
+    if !filter_begins(value, n, at) {
+        return Handed::End;
+    }
+    let coded = coded_at(value, at);
+    match coded {
+        Coded::Badly => Handed::End,
+        Coded::Well(f) => Handed::Filter(identifier_in(value[at]), f),
     }
 }
 
-// The offset after n entries; `at` where they are not all there.
-fn pass(value: &[u8], at: usize, n: u8) -> usize
-    requires { ⌜ (0 < length (now value)) × (at ≤ length (now value)) ⌝ }
-    ensures { λ r. ⌜ r ≡ passed (now (value .entry)) at n ⌝ }
+fn identifier_at(value: &[u8], n: u8, at: usize) -> Handed
+    requires { ⌜ 1 + n ≤ length (now value) ⌝ }
+    ensures { λ r. ⌜ r ≡ placedAt (placedIdentifiers 1 (take n (drop 1 (now (value .entry))))) at .entry ⌝ }
 {
-    let operation = value[0] / 32;
-    if has_filters(operation) {
-        return pass_filters(value, at, n);
+    if !identifier_begins(n, at) {
+        return Handed::End;
     }
-    if operation != 5 {
+    Handed::Identifier(identifier_in(value[at]))
+}
+
+fn after_filter(value: &[u8], n: u8, at: usize) -> usize
+    requires { ⌜ whole (splitOf n (drop 1 (now value))) ≡ true ⌝ }
+    ensures { λ r. ⌜ r ≡ placedAt (placedSplit 1 (splitOf n (drop 1 (now (value .entry))))) at .after ⌝ }
+{
+    if !filter_begins(value, n, at) {
         return at;
     }
-    let count = wide(n);
-    if value.len() - at < count {
-        return at;
-    }
-    at + count
-}
-
-fn list_end(value: &[u8]) -> usize
-    ensures { λ r. ⌜ r ≡ listEnd (now (value .entry)) ⌝ }
-{
-    if value.len() == 0 {
-        return 0;
-    }
-    pass(value, 1, value[0] % 16)
+    at + 3 + wide(value[at + 2])
 }
 
 fn cause_of(value: &[u8]) -> Handed
@@ -99,22 +115,6 @@ fn cause_of(value: &[u8]) -> Handed
         Answer::Identifiers => Handed::End,
         Answer::Bare(_) => Handed::End,
         Answer::Refused(refusal) => Handed::Refused(refusal),
-    }
-}
-
-fn filter_at(value: &[u8], at: usize) -> Handed
-    ensures { λ r. ⌜ r ≡ firstFilter (splitOf 1 (drop at (now (value .entry)))) ⌝ }
-{
-    let end = part_end(value, at, 2);
-    match end {
-        Place::Cut => Handed::End,
-        Place::At(_) => {
-            let coded = coded_at(value, at);
-            match coded {
-                Coded::Badly => Handed::End,
-                Coded::Well(f) => Handed::Filter(value[at] % 16, f),
-            }
-        }
     }
 }
 
@@ -132,31 +132,36 @@ fn start(value: &[u8]) -> usize
     }
 }
 
-fn entry_at(value: &[u8], at: usize) -> Handed
-    ensures { λ r. ⌜ r ≡ entryAt (now (value .entry)) at ⌝ }
+fn look_at(value: &[u8], at: usize) -> Handed
+    ensures { λ r. ⌜ r ≡ lookAt (now (value .entry)) at ⌝ }
 {
     if at == 0 {
         return cause_of(value);
     }
-    if list_end(value) <= at {
-        return Handed::End;
+    let frame = frame_of(value);
+    match frame {
+        Frame::NotFramed => Handed::End,
+        Frame::Filters(_, n) => filter_at(value, n, at),
+        Frame::Identifiers(n) => identifier_at(value, n, at),
+        Frame::Bare(_) => Handed::End,
     }
-    if value[0] / 32 == 5 {
-        return Handed::Identifier(value[at] % 16);
-    }
-    filter_at(value, at)
 }
 
 fn after(value: &[u8], at: usize) -> usize
     ensures { λ r. ⌜ r ≡ afterAt (now (value .entry)) at ⌝ }
 {
-    if at == 0 {
-        return at;
+    let frame = frame_of(value);
+    match frame {
+        Frame::NotFramed => at,
+        Frame::Filters(_, n) => after_filter(value, n, at),
+        Frame::Identifiers(n) => {
+            if !identifier_begins(n, at) {
+                return at;
+            }
+            at + 1
+        }
+        Frame::Bare(_) => at,
     }
-    if list_end(value) <= at {
-        return at;
-    }
-    pass(value, at, 1)
 }
 
 fn after_all(value: &[u8], at: usize, n: u8) -> usize
@@ -178,10 +183,10 @@ pub fn new<'a>(value: &'a [u8]) -> Entries<'a>
     Entries { value, at }
 }
 
-pub fn next<'a>(e: Entries<'a>) -> Handed
-    ensures { λ r. ⌜ r ≡ entryAt (now (e .entry .value)) (e .entry .at) ⌝ }
+pub fn look<'a>(e: Entries<'a>) -> Handed
+    ensures { λ r. ⌜ r ≡ lookAt (now (e .entry .value)) (e .entry .at) ⌝ }
 {
-    entry_at(e.value, e.at)
+    look_at(e.value, e.at)
 }
 
 pub fn advanced<'a>(e: Entries<'a>) -> Entries<'a>
@@ -202,5 +207,5 @@ pub fn skipped<'a>(e: Entries<'a>, n: u8) -> Entries<'a>
 pub fn nth(value: &[u8], n: u8) -> Handed
     ensures { λ r. ⌜ r ≡ nthOf (now (value .entry)) n ⌝ }
 {
-    next(skipped(new(value), n))
+    look(skipped(new(value), n))
 }

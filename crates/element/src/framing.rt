@@ -1,8 +1,7 @@
 // How a value's octets are framed: which list of entries they are, and that it ends where E says.
 ghost use mathlib.Core.Path.{_≡_};
-ghost use Prim.Native.Nat.{_≤_};
 ghost use lib.ListN.{length};
-ghost use Rattle.element.specs.Framing.{splitOf, parameters, restFits, framedSet, framedIdentifiers, framedBare, framedBy, framedOf};
+ghost use Rattle.element.specs.Framing.{identifierIn, splitOf, parameters, restFits, framedSet, framedIdentifiers, framedBare, framedBy, framedOf};
 ghost use Rattle.element.specs.Walk.{partEnd, placeOf, frameOf};
 use crate::answer::BareOperation;
 use crate::answer::SetOperation;
@@ -30,8 +29,14 @@ pub enum Frame {
     Bare(BareOperation),
 }
 
+pub(crate) fn identifier_in(octet: u8) -> u8
+    ensures { λ r. ⌜ r ≡ identifierIn octet ⌝ }
+{
+    octet % 16
+}
+
 // The end of the part at `at`: `skip` octets, its length, as many octets.
-pub(crate) fn part_end(s: &[u8], at: usize, skip: usize) -> Place
+fn part_end(s: &[u8], at: usize, skip: usize) -> Place
     ensures { λ r. ⌜ r ≡ partEnd (now (s .entry)) at skip ⌝ }
 {
     if s.len() <= skip {
@@ -49,7 +54,7 @@ pub(crate) fn part_end(s: &[u8], at: usize, skip: usize) -> Place
 }
 
 // A filter's length stands after two octets.
-pub(crate) fn entries_end(s: &[u8], n: u8) -> Place
+fn entries_end(s: &[u8], n: u8) -> Place
     ensures { λ r. ⌜ r ≡ placeOf (length (now (s .entry))) (splitOf n (now (s .entry))) ⌝ }
 {
     let mut at = 0;

@@ -13,6 +13,7 @@ use crate::answer::SetOperation;
 use crate::answer::refuse;
 use crate::contents::Coded;
 use crate::contents::read_contents;
+use crate::framing::identifier_in;
 use crate::octets::wide;
 use filter::Filter;
 use filter::component::PLACES;
@@ -82,7 +83,7 @@ fn judge_entry(st: Judged, s: &[u8], at: usize) -> Judged
     requires { ⌜ (at + 3 ≤ length (now s)) × (at + 3 + getD (now s) (at + 2) 0 ≤ length (now s)) ⌝ }
     ensures { λ r. ⌜ r ≡ judgedRaw st (rawAt (now (s .entry)) at) ⌝ }
 {
-    judge_coded(st, wide(s[at] % 16), coded_at(s, at))
+    judge_coded(st, wide(identifier_in(s[at])), coded_at(s, at))
 }
 
 // The n filters of s, which are all there.

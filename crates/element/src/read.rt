@@ -10,6 +10,7 @@ use crate::answer::refuse;
 use crate::answer::without_sets;
 use crate::framing::Frame;
 use crate::framing::frame_of;
+use crate::framing::identifier_in;
 use crate::head::LONGEST;
 use crate::judge::judge_all;
 use crate::judge::verdict;
@@ -24,7 +25,7 @@ fn mark_all(s: &[u8]) -> [bool; PLACES]
     let mut marks = [false; PLACES];
     let mut i = 0;
     while i < s.len() {
-        let identifier = wide(s[i] % 16);
+        let identifier = wide(identifier_in(s[i]));
         marks[identifier] = true;
         i += 1;
     }

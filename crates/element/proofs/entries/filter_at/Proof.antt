@@ -1,28 +1,42 @@
--- `element::entries::filter_at` meets its contract: where a filter is all there, its contents decide.
+-- `element::entries::filter_at` meets its contract: where a filter begins, its contents decide.
 -- Assumes nothing.
-use mathlib.Core.Path.{_≡_, sym, _∙_}
+use mathlib.Core.Path.{ap, sym, _∙_}
 use native.Mathlib.Omega.{arith}
+use lib.ListN.{drop}
+use borrow.Author.Tests.{not-true, not-false}
+use Rattle.element.specs.Framing.{splitOf}
+use Rattle.element.specs.Entries.{Placed}
+use Rattle.element.specs.Walk.{placedSplit}
+use Rattle.element.proofs.Offsets.{nothing-begins, Begun, begun}
 use borrow.Author.Needs.{needs}
-use Rattle.element.specs.declared.framing.Place.the-variants.{At}
-use Rattle.element.specs.Walk.{partEnd}
-use Rattle.element.proofs.Offsets.{filter-cut, filter-inside, filter-one}
 use Rattle.element.proofs.entries.filter_at.Statement.{statement}
 use Rattle.element.proofs.entries.filter_at.Tie as tie
 
--- where it ends
-ended : (c : tie.After-enum-told2)
-    → let a = c .before .before .before .before .args in
-    partEnd (a .value .now) (a .at) 2 ≡ At (c .enum-told2 .given .0 .0)
-ended c = sym (c .before .before .part-end .ensures) ∙ c .enum-told2 .given .1
+-- where one of the filters begins
+there : (c : tie.Else1)
+    → let a = c .before .before .before .args in
+    Begun (a .value .now) (placedSplit 1 (splitOf (a .n) (drop 1 (a .value .now)))) (a .at)
+there c =
+    let f = c .before .filter-begins in
+    begun _ _ 1 _ (c .before .before .before .pre) (sym (f .ensures) ∙ not-false (f .result) (c .if1 .left))
 
 pub filter-at-spec : {M : Type 1} → statement M
 filter-at-spec =
     tie.close
     (tie.spec
-    (λ c κs. search needs) (λ c. search needs) (λ c. search needs)
-    (λ c κs. filter-inside _ _ _ (ended c))
+    (λ c κs. search needs)
+    (λ c.
+    let f = c .before .filter-begins in
+    sym (ap (λ (p : Placed). p .entry) (nothing-begins _ (c .before .before .before .args .at) (sym (f .ensures) ∙ not-true (f .result) (c .if1 .taken)))))
+    (λ c κs. there c .inside)
     (λ c. search needs) (λ c. search needs)
-    (λ c. omega (arith, filter-inside _ _ _ (ended (c .before .before .before .before .before))))
-    (λ c. sym (filter-cut _ _ (sym (c .before .before .part-end .ensures) ∙ c .enum-told .given .1)))
-    (λ c. rw (filter-one _ _ _ (ended (c .before .before .before)) _ (c .before .before .coded-at .ensures), c .enum-told3 .given .1))
-    (λ c. rw (filter-one _ _ _ (ended (c .before .before .before .before .before)) _ (c .before .before .before .before .coded-at .ensures), c .before .before .coded .given .1)))
+    (λ c. omega (arith, there (c .before .before .before .before .before) .inside))
+    (λ c κs. search needs)
+    (λ c. rw (there (c .before .before .before) .found, ← c .before .before .coded-at .ensures, c .enum-told .given .1))
+    (λ c.
+    rw (
+      there (c .before .before .before .before .before .before) .found,
+      ← c .before .before .before .before .before .coded-at .ensures,
+      c .before .before .before .coded .given .1,
+      c .identifier-in .ensures,
+    )))

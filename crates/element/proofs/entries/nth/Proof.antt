@@ -1,4 +1,4 @@
--- `element::entries::nth` meets its contract: a walk of its MIR, by hand. A reader is made in a local, `skipped` hands it on by n entries into another, and `next` is called on that.
+-- `element::entries::nth` meets its contract: a walk of its MIR, by hand. A reader is made in a local, `skipped` hands it on by n entries into another, and `look` is called on that.
 -- What the slice owns is had twice: for the reader, and for the exit. The lifetime's token goes to each callee and comes back.
 -- Assumes nothing.
 use mathlib.Core.Path.{_≡_, refl, ap, _∙_}
@@ -38,7 +38,7 @@ use denote.Exit.{yes}
 use denote.Triple.Clauses.{ensured, lasts}
 use Rattle.element.specs.declared.entries.Entries.{Entries}
 use Rattle.element.specs.declared.entries.Handed.{Handed}
-use Rattle.element.specs.Entries.{nthOf, entryAt, afterAll, begun, skippedOf}
+use Rattle.element.specs.Entries.{nthOf, lookAt, afterAll, begun, skippedOf}
 use Rattle.element.proofs.Stepping.{nth-steps}
 use Rattle.element.proofs.Held.{Row, octets, OwnSlice, slice-twice}
 use Rattle.element.proofs.entries.Entries as T
@@ -53,10 +53,10 @@ use Rattle.element.proofs.entries.skipped as skipped
 use Rattle.element.proofs.entries.skipped.Symbol as skipped-def
 use Rattle.element.proofs.entries.skipped.Symbol.{name as #element·entries·skipped}
 use Rattle.element.proofs.entries.skipped.Met as skipped-thm
-use Rattle.element.proofs.entries.next as next
-use Rattle.element.proofs.entries.next.Symbol as next-def
-use Rattle.element.proofs.entries.next.Symbol.{name as #element·entries·next}
-use Rattle.element.proofs.entries.next.Met as next-thm
+use Rattle.element.proofs.entries.look as looking
+use Rattle.element.proofs.entries.look.Symbol as look-def
+use Rattle.element.proofs.entries.look.Symbol.{name as #element·entries·look}
+use Rattle.element.proofs.entries.look.Met as look-thm
 use Rattle.element.proofs.entries.nth.Key.{name as #element·entries·nth}
 use Rattle.element.proofs.entries.nth as nth
 use Rattle.element.proofs.entries.nth.Statement as stated
@@ -73,8 +73,8 @@ module _ {M : Type 1} (𝓤 : URA M) (H : Heap 𝓤) (A : Atoms 𝓤) (mem : Mem
   abbrev Skipped : Contract 𝓤
   Skipped = tripleOf 𝓤 H A skipped.signature (skipped.spec 𝓤 H A mem run)
 
-  abbrev Next : Contract 𝓤
-  Next = tripleOf 𝓤 H A next.signature (next.spec 𝓤 H A mem run)
+  abbrev Look : Contract 𝓤
+  Look = tripleOf 𝓤 H A looking.signature (looking.spec 𝓤 H A mem run)
 
 module _ {M : Type 1} (𝓤 : URA M) (H : Heap 𝓤) (A : Atoms 𝓤) (W : Given 𝓤 H A) (mem : Memory → SProp 𝓤) (run : Routine → Fun 𝓤) (κ : Lft) (q : Share) (s : RefT (List ℕ)) (n : ℕ) (small : n < 2 ^ 8) where
   abbrev at : Vals nth.signature (κ, tt)
@@ -119,25 +119,25 @@ module _ {M : Type 1} (𝓤 : URA M) (H : Heap 𝓤) (A : Atoms 𝓤) (W : Given
   skipped-said : (r r′ : Entries) → ent 𝓤 (ensured 𝓤 H A skipped.ended (skipped.clauses 𝓤 H A mem run) (κ, tt) (r, (n, tt)) tt r′) (fact 𝓤 (Stepped r r′))
   skipped-said r r′ = exE 𝓤 _ (λ ws. snd∗ 𝓤 (sem 𝓤 H A (lasts skipped.ended (κ, tt) (r, (n, tt)) ws)) (fact 𝓤 (Stepped r r′)))
 
-  -- the call of `next`
+  -- the call of `look`
   abbrev Handing : Entries → Handed → Type 0
-  Handing r t = t ≡ entryAt (now (r .value)) (r .at)
+  Handing r t = t ≡ lookAt (now (r .value)) (r .at)
 
-  abbrev to-next : Entries → Val → Next 𝓤 H A mem run .Ghost
-  to-next r u = (((κ, tt), (q, tt), tt, (r, tt), (u ∷ [], tt)), tt)
+  abbrev to-look : Entries → Val → Look 𝓤 H A mem run .Ghost
+  to-look r u = (((κ, tt), (q, tt), tt, (r, tt), (u ∷ [], tt)), tt)
 
-  goes-next : (r : Entries) (u : Val) → ent 𝓤 (⋆ 𝓤 H A (‵ (Row (κ, tt) .own r (u ∷ [])) ∷ (‵ (flft κ q) ⊛ ‵ ftrue) ∷ [])) (Next 𝓤 H A mem run .pre (to-next r u))
-  goes-next r u = qed W (‵ (Row (κ, tt) .own r (u ∷ [])) ∷ (‵ (flft κ q) ⊛ ‵ ftrue) ∷ []) ∵ nothing ! $ move ! (1 ∷ 0 ∷ []) $ fjoin ! $ move ! (1 ∷ 0 ∷ []) $ join ! $ frame ! $ done !
+  goes-look : (r : Entries) (u : Val) → ent 𝓤 (⋆ 𝓤 H A (‵ (Row (κ, tt) .own r (u ∷ [])) ∷ (‵ (flft κ q) ⊛ ‵ ftrue) ∷ [])) (Look 𝓤 H A mem run .pre (to-look r u))
+  goes-look r u = qed W (‵ (Row (κ, tt) .own r (u ∷ [])) ∷ (‵ (flft κ q) ⊛ ‵ ftrue) ∷ []) ∵ nothing ! $ move ! (1 ∷ 0 ∷ []) $ fjoin ! $ move ! (1 ∷ 0 ∷ []) $ join ! $ frame ! $ done !
 
-  next-said : (r : Entries) (t : Handed) → ent 𝓤 (ensured 𝓤 H A next.ended (next.clauses 𝓤 H A mem run) (κ, tt) (r, tt) tt t) (fact 𝓤 (Handing r t))
-  next-said r t = exE 𝓤 _ (λ ws. snd∗ 𝓤 (sem 𝓤 H A (lasts next.ended (κ, tt) (r, tt) ws)) (fact 𝓤 (Handing r t)))
+  look-said : (r : Entries) (t : Handed) → ent 𝓤 (ensured 𝓤 H A looking.ended (looking.clauses 𝓤 H A mem run) (κ, tt) (r, tt) tt t) (fact 𝓤 (Handing r t))
+  look-said r t = exE 𝓤 _ (λ ws. snd∗ 𝓤 (sem 𝓤 H A (lasts looking.ended (κ, tt) (r, tt) ws)) (fact 𝓤 (Handing r t)))
 
   -- the three clauses together
   comes : (r r′ : Entries) (t : Handed) → r ≡ begun s → Stepped r r′ → Handing r′ t → t ≡ nthOf (now s) n
   comes r r′ t e e′ e″ =
       e″
-      ∙ (ap (λ (x : Entries). entryAt (now (x .value)) (x .at)) e′
-      ∙ (ap (λ (x : Entries). entryAt (now (x .value)) (afterAll (now (x .value)) (x .at) n)) e ∙ nth-steps (now s) n))
+      ∙ (ap (λ (x : Entries). lookAt (now (x .value)) (x .at)) e′
+      ∙ (ap (λ (x : Entries). lookAt (now (x .value)) (afterAll (now (x .value)) (x .at) n)) e ∙ nth-steps (now s) n))
 
   exits : (t : Handed) (u : Val) → t ≡ nthOf (now s) n → ent 𝓤 (⋆ 𝓤 H A (‵ (S.the-row .own t (u ∷ [])) ∷ (‵ (flft κ q) ⊛ ‵ ftrue) ∷ ‵ (OwnSlice κ s) ∷ [])) (Post u)
   exits t u e =
@@ -146,7 +146,7 @@ module _ {M : Type 1} (𝓤 : URA M) (H : Heap 𝓤) (A : Atoms 𝓤) (W : Given
       move ! (1 ∷ []) $ frame ! $ nothing ! $ owned ! u8 (Is u8) (uint-makes 𝓤 H A W w8) n _ (refl, small) $ fjoin ! $ move ! (2 ∷ 0 ∷ []) $ fjoin ! $ frame ! $ done !
 
   module _ (C : Calls 𝓤 H) (Λ : Loops 𝓤 H) (fm : FmC 𝓤 H (W .laws) C) (known-new : Triple 𝓤 (C #element·entries·new) (New 𝓤 H A mem run))
-      (known-skipped : Triple 𝓤 (C #element·entries·skipped) (Skipped 𝓤 H A mem run)) (known-next : Triple 𝓤 (C #element·entries·next) (Next 𝓤 H A mem run)) where
+      (known-skipped : Triple 𝓤 (C #element·entries·skipped) (Skipped 𝓤 H A mem run)) (known-look : Triple 𝓤 (C #element·entries·look) (Look 𝓤 H A mem run)) where
     walk : Is (ShrSlice (named 0) κ u8) s (octets s ∷ []) → ent 𝓤 (onEntry 𝓤 H A nth.signature (κ, tt) (q, tt) (s, (n, tt)) at) (WpFn 𝓤 H C Λ code.function (octets s ∷ vint w8 n ∷ []) Post)
     walk p =
         qed W (raw (onEntry 𝓤 H A nth.signature (κ, tt) (q, tt) (s, (n, tt)) at) ∷ []) ∵ enter ! C Λ code.function (octets s ∷ vint w8 n ∷ []) _ $
@@ -167,10 +167,10 @@ module _ {M : Type 1} (𝓤 : URA M) (H : Heap 𝓤) (A : Atoms 𝓤) (W : Given
         -- [the reader; the token; the slice; _4; …; room for _3; …; _2; …; _1; …; room for _0; …]
         peeks ! (Row (κ, tt)) (Is (Row (κ, tt))) (shows 𝓤 H A (Row (κ, tt))) r′ (u′ ∷ []) (λ is′.
         land ! (from ! (stop !)) (init ! 5 refl (LL.lawful (T.the-type αᵉ) (T′.the-laws αᵉ) 𝓤 H A W .typed r′ _ is′ .0)) $
-        use2 W (raw (Next 𝓤 H A mem run .pre (to-next r′ u′))) (goes-next r′ u′) $
-        calls-at ! fm (Next 𝓤 H A mem run) known-next (to-next r′ u′) (and-then ! (load ! (from ! (stop !)) (look ! 4 refl)) (no-more !)) (λ u″.
-        use1 W (later (some (λ (t : Handed). ((‵ (flft κ q) ⊛ ‵ ftrue) ⊛ ‵ (S.the-row .own t (u″ ∷ []))) ⊛ raw (ensured 𝓤 H A next.ended (next.clauses 𝓤 H A mem run) (κ, tt) (r′, tt) tt t)))) (id⊢ 𝓤 _) $ await ! tt $ pick ! (λ t.
-        split ! $ move ! (1 ∷ []) $ use1 W (raw (fact 𝓤 (Handing r′ t))) (next-said r′ t) $ heard ! (Handing r′ t) (λ e″. split ! $ move ! (1 ∷ []) $
+        use2 W (raw (Look 𝓤 H A mem run .pre (to-look r′ u′))) (goes-look r′ u′) $
+        calls-at ! fm (Look 𝓤 H A mem run) known-look (to-look r′ u′) (and-then ! (load ! (from ! (stop !)) (look ! 4 refl)) (no-more !)) (λ u″.
+        use1 W (later (some (λ (t : Handed). ((‵ (flft κ q) ⊛ ‵ ftrue) ⊛ ‵ (S.the-row .own t (u″ ∷ []))) ⊛ raw (ensured 𝓤 H A looking.ended (looking.clauses 𝓤 H A mem run) (κ, tt) (r′, tt) tt t)))) (id⊢ 𝓤 _) $ await ! tt $ pick ! (λ t.
+        split ! $ move ! (1 ∷ []) $ use1 W (raw (fact 𝓤 (Handing r′ t))) (look-said r′ t) $ heard ! (Handing r′ t) (λ e″. split ! $ move ! (1 ∷ []) $
         -- [the result; the token; the slice; _4; …; _3; …; _2; …; _1; …; room for _0; …]
         peeks ! S.the-row (Is S.the-row) (shows 𝓤 H A S.the-row) t (u″ ∷ []) (λ is″.
         land ! (from ! (stop !)) (init ! 11 refl (EL.lawful S.the-type S′.the-laws 𝓤 H A W tt .typed t _ is″ .0)) $
@@ -180,18 +180,18 @@ module _ {M : Type 1} (𝓤 : URA M) (H : Heap 𝓤) (A : Atoms 𝓤) (W : Given
 
 module _ {M : Type 1} (𝓤 : URA M) (H : Heap 𝓤) (A : Atoms 𝓤) (W : Given 𝓤 H A) (mem : Memory → SProp 𝓤) (run : Routine → Fun 𝓤) where
   nth-walks : (C : Calls 𝓤 H) (Λ : Loops 𝓤 H) → FmC 𝓤 H (W .laws) C → Triple 𝓤 (C #element·entries·new) (New 𝓤 H A mem run) → Triple 𝓤 (C #element·entries·skipped) (Skipped 𝓤 H A mem run)
-      → Triple 𝓤 (C #element·entries·next) (Next 𝓤 H A mem run) → Walks 𝓤 H A nth.ended stayed (WpFn 𝓤 H C Λ code.function) (nth.clauses 𝓤 H A mem run)
-  nth-walks C Λ fm known-new known-skipped known-next = walked 𝓤 H A nth.ended stayed (nth.clauses 𝓤 H A mem run) (WpFn 𝓤 H C Λ code.function)
+      → Triple 𝓤 (C #element·entries·look) (Look 𝓤 H A mem run) → Walks 𝓤 H A nth.ended stayed (WpFn 𝓤 H C Λ code.function) (nth.clauses 𝓤 H A mem run)
+  nth-walks C Λ fm known-new known-skipped known-look = walked 𝓤 H A nth.ended stayed (nth.clauses 𝓤 H A mem run) (WpFn 𝓤 H C Λ code.function)
       (λ κs. (slice-vals, (uint-vals w8, tt))) (λ κs. (shr-slice-tells (named 0) (κs .0) u8, (uint-tells w8, tt)))
-      (λ κs qs bounds a g are. via 𝓤 _ (fst∗ 𝓤 _ (emp 𝓤)) (walk 𝓤 H A W mem run (κs .0) (qs .0) (a .0) (a .1 .0) (are .1 .0 .1) C Λ fm known-new known-skipped known-next (are .0)))
+      (λ κs qs bounds a g are. via 𝓤 _ (fst∗ 𝓤 _ (emp 𝓤)) (walk 𝓤 H A W mem run (κs .0) (qs .0) (a .0) (a .1 .0) (are .1 .0 .1) C Λ fm known-new known-skipped known-look (are .0)))
 
 nth-meets : {M : Type 1} (𝓤 : URA M) (H : Heap 𝓤) (A : Atoms 𝓤) (W : Given 𝓤 H A) (mem : Memory → SProp 𝓤) (run : Routine → Fun 𝓤) (𝓣 : Tables 𝓤 H)
-    → Triple 𝓤 (𝓣 .C #element·entries·new) (New 𝓤 H A mem run) → Triple 𝓤 (𝓣 .C #element·entries·skipped) (Skipped 𝓤 H A mem run) → Triple 𝓤 (𝓣 .C #element·entries·next) (Next 𝓤 H A mem run)
+    → Triple 𝓤 (𝓣 .C #element·entries·new) (New 𝓤 H A mem run) → Triple 𝓤 (𝓣 .C #element·entries·skipped) (Skipped 𝓤 H A mem run) → Triple 𝓤 (𝓣 .C #element·entries·look) (Look 𝓤 H A mem run)
     → Meets 𝓤 H A nth.signature (WpFn 𝓤 H (𝓣 .C) (𝓣 .Λ) code.function) (nth.spec 𝓤 H A mem run)
-nth-meets 𝓤 H A W mem run 𝓣 known-new known-skipped known-next =
+nth-meets 𝓤 H A W mem run 𝓣 known-new known-skipped known-look =
     walk-meets 𝓤 H A nth.ended stayed W (goes-none-slice 𝓤 H A W 1 (0 ∷ []) tt (plain (λ _. u8)) yes, (goes-none 𝓤 H A W 1 (λ _. u8) yes (λ κs x f. refl), tt)) (nth.clauses 𝓤 H A mem run)
     (WpFn 𝓤 H (𝓣 .C) (𝓣 .Λ) code.function) (WpFn-mono 𝓤 H (W .laws) 𝓣 code.function)
-    (nth-walks 𝓤 H A W mem run (𝓣 .C) (𝓣 .Λ) (fmOf 𝓤 H (W .laws) 𝓣) known-new known-skipped known-next)
+    (nth-walks 𝓤 H A W mem run (𝓣 .C) (𝓣 .Λ) (fmOf 𝓤 H (W .laws) 𝓣) known-new known-skipped known-look)
 
 pub nth-spec : {M : Type 1} → stated.statement M
 unfolding code.routine tablesOf
@@ -201,4 +201,4 @@ nth-spec 𝓤 H 𝓜 𝓖 𝓡 =
     (nth-meets 𝓤 H (𝓖 .A) (givenOf 𝓤 H 𝓜 𝓖) (𝓜 .mem) (𝓡 .run) (tablesOf 𝓤 H 𝓜 (tables 𝓤 H 𝓜 𝓡 code.env))
     (cited 𝓤 H (New 𝓤 H (𝓖 .A) (𝓜 .mem) (𝓡 .run)) 𝓜 𝓡 code.env #element·entries·new new-def.routine code.calls-element·entries·new (new-thm.met 𝓤 H 𝓜 𝓖 𝓡))
     (cited 𝓤 H (Skipped 𝓤 H (𝓖 .A) (𝓜 .mem) (𝓡 .run)) 𝓜 𝓡 code.env #element·entries·skipped skipped-def.routine code.calls-element·entries·skipped (skipped-thm.met 𝓤 H 𝓜 𝓖 𝓡))
-    (cited 𝓤 H (Next 𝓤 H (𝓖 .A) (𝓜 .mem) (𝓡 .run)) 𝓜 𝓡 code.env #element·entries·next next-def.routine code.calls-element·entries·next (next-thm.met 𝓤 H 𝓜 𝓖 𝓡)))
+    (cited 𝓤 H (Look 𝓤 H (𝓖 .A) (𝓜 .mem) (𝓡 .run)) 𝓜 𝓡 code.env #element·entries·look look-def.routine code.calls-element·entries·look (look-thm.met 𝓤 H 𝓜 𝓖 𝓡)))

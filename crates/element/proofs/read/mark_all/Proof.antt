@@ -30,8 +30,8 @@ marked-end s i marks h = rw (drop-of-length-le s h)
 
 loop-again : tie.Need-loop-again Inv-loop μ-loop
 loop-again c =
-    let l = c .before .before .before .loop in
-    (omega arith, simp length-set (l .inv .1), rw (c .wide .ensures) (sym (marked-next _ (l .i) (l .marks) (omega arith)) ∙ l .inv .2))
+    let l = c .before .before .before .before .loop in
+    (omega arith, simp length-set (l .inv .1), rw (c .wide .ensures, c .before .identifier-in .ensures) (sym (marked-next _ (l .i) (l .marks) (omega arith)) ∙ l .inv .2))
 
 returns : tie.Need-returns Inv-loop μ-loop
 returns c =
@@ -45,6 +45,8 @@ mark-all-spec =
     (tie.spec
     Inv-loop μ-loop
     (λ c. (omega arith, refl, refl))
-    (λ c. search needs) (λ c κs. search needs) (λ c. search needs) (λ c. search needs) (λ c. search needs)
+    (λ c. search needs) (λ c κs. search needs) (λ c κs. search needs)
+    (λ c. let w = c .wide .ensures in let i = c .before .identifier-in .ensures in let n = c .before .before .before .before .loop .inv .1 in omega arith)
+    (λ c. search needs) (λ c. search needs)
     loop-again
     returns)

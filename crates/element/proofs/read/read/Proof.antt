@@ -1,6 +1,6 @@
 -- `element::read::read` meets its contract: a value has at most 255 octets, and how it is framed says what it holds.
 -- Assumes nothing.
-use mathlib.Core.Path.{_≡_, sym, _∙_}
+use mathlib.Core.Path.{sym, _∙_}
 use native.Mathlib.Nat.{add-sub-cancel-left}
 use native.Mathlib.Omega.{arith}
 use borrow.Author.Tests.{le-leb, lt-leb}
@@ -8,8 +8,8 @@ use Rattle.laws.proofs.Parts.{part-rest}
 use Rattle.laws.proofs.Typed.{all-of}
 use Rattle.element.specs.Read.{readValue, readElement}
 use Rattle.element.specs.Meaning.{Octet}
-use Rattle.element.proofs.Frames.{FiltersFramed, IdentifiersFramed, not-framed, filters-framed, identifiers-framed, bare-framed}
-use Rattle.element.proofs.Judging.{filters-whole, filters-judged}
+use Rattle.element.proofs.Frames.{FiltersFramed, IdentifiersFramed, filters-whole, not-framed, filters-framed, identifiers-framed, bare-framed}
+use Rattle.element.proofs.Judging.{filters-judged}
 use borrow.Author.Needs.{needs}
 use Rattle.element.proofs.read.read.Statement.{statement}
 use Rattle.element.proofs.read.read.Tie as tie
