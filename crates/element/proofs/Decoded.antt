@@ -13,6 +13,7 @@ use Rattle.laws.specs.Lists.{All}
 use Rattle.laws.specs.Octets.{beOf}
 use Rattle.laws.proofs.Octets.{be-within}
 use Rattle.laws.proofs.Parts.{all-take, all-drop}
+use Rattle.laws.proofs.Says.{picked}
 use Rattle.laws.proofs.Tests.{or-true, both}
 use Rattle.filter.specs.declared.component.RemoteAddress.the-variants.{V4, V6}
 use Rattle.filter.specs.declared.component.Protocol.the-variants.{Is as isProtocol}
@@ -26,6 +27,7 @@ use Rattle.filter.specs.Build.{Component, ipv4Remote, ipv6Remote, protocol, loc
 use Rattle.filter.specs.Coding.{held, labelFits, wellCoded}
 use Rattle.filter.specs.Ranges.{AddressInRange, RemoteInRange, ProtocolInRange, PortInRange, IndexInRange, ClassInRange, LabelInRange, FilterInRange}
 use Rattle.filter.proofs.Theorems.{label-added}
+use Rattle.filter.specs.Sizes.{placeCount}
 use Rattle.element.specs.declared.answer.SetOperation.{SetOperation}
 use Rattle.element.specs.declared.answer.SetOperation.the-variants.{Create, Add, Replace}
 use Rattle.element.specs.declared.answer.BareOperation.{BareOperation}
@@ -38,10 +40,6 @@ use Rattle.element.specs.Read.{Entry, codedOf, Entries, badly, coded, wi
 use Rattle.element.specs.Meaning.{Octet}
 
 -- whichever a test picks
-picked : {A : Type 0} (P : A → Type 0) (b : Bool) (x y : A) → P x → P y → P (pick b x y)
-picked P true x y p q = p
-picked P false x y p q = q
-
 -- ---- A component, from the octets of its value
 abbrev ComponentInRange : Component → Type 0
 ComponentInRange (ipv4Remote address mask) = RemoteInRange (V4 address mask)
@@ -322,14 +320,14 @@ framed-into (x ∷ xs) h = framed-by (x / 16 % 2) (x % 16) (omega arith) xs (x /
 
 -- ---- The entries
 pub record EntryDecoded (e : Entry) : Type 0 where
-  pub identifier : e .identifier < 16
+  pub identifier : e .identifier < placeCount
   pub filter : Decoded (e .filter)
 
 abbrev pub EntriesInto : ℕ → Entries → Type 0
 EntriesInto n badly = Unit {0}
 EntriesInto n (coded es) = (length es ≡ n) × All EntryDecoded es
 
-with-entry : (n i : ℕ) (c : Coded) (es : Entries) → i < 16 → DecodedAs c → EntriesInto n es → EntriesInto (suc n) (withEntry i c es)
+with-entry : (n i : ℕ) (c : Coded) (es : Entries) → i < placeCount → DecodedAs c → EntriesInto n es → EntriesInto (suc n) (withEntry i c es)
 with-entry n i Badly es l d h = tt
 with-entry n i (Well f) badly l d h = tt
 with-entry n i (Well f) (coded es) l d h = (ap suc (h .0), (record { identifier = l; filter = d }, h .1))

@@ -15,7 +15,7 @@ use Rattle.laws.proofs.Parts.{drop-next}
 use Rattle.element.specs.declared.framing.Place.{Place}
 use Rattle.element.specs.declared.framing.Place.the-variants.{Cut, At}
 use Rattle.element.specs.Framing.{Raw, Split, cut, split, after, splitOf, parameters, restFits}
-use Rattle.element.specs.Walk.{partBy, partEnd, placeOf, rawAt}
+use Rattle.element.specs.inner.Walk.{partBy, partEnd, placeOf, rawAt}
 
 -- ---- the end of a part is past its start, and not past the end of all
 by-inside : (total from l next : ℕ) (b : Bool) → leb l (total - from) ≡ b → pick b (At (from + l)) Cut ≡ At next → from ≤ total → (from ≤ next) × (next ≤ total)

@@ -17,7 +17,7 @@ use Rattle.element.specs.declared.framing.Place.the-variants.{Cut, At}
 use Rattle.element.specs.declared.framing.Frame.the-variants.{NotFramed, Filters, Identifiers, Bare}
 use Rattle.element.specs.Head.{operationIn, extensionIn, countIn, create, deleteTft, add, replace, deleteFilters, noOperation}
 use Rattle.element.specs.Framing.{Raw, Split, cut, split, splitOf, restFits, Framed, notFramed, filters, identifiers, bare, framedSplit, framedSet, framedIdentifiers, framedBare, framedBy, framedOf}
-use Rattle.element.specs.Walk.{placeOf, frameOf, whole}
+use Rattle.element.specs.inner.Walk.{placeOf, frameOf, whole}
 use Rattle.element.proofs.Splitting.{rest-at, split-count}
 
 -- ---- a list of filters, from the place where it ends

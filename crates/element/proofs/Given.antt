@@ -3,17 +3,19 @@ use mathlib.Core.Path.{_≡_, refl, sym, _∙_, ap, subst}
 use mathlib.Core.Bool.{Bool, true, false, not, _&&_, false≢true}
 use mathlib.Core.Logic.{inl, inr}
 use mathlib.Core.List.{List, [], _∷_, map}
-use Prim.Native.Nat.{ℕ, zero, suc, _%_, _≤_, _<_}
+use Prim.Native.Nat.{ℕ, _%_, _≤_, _<_}
 use native.Mathlib.Omega.{arith}
 use lib.Dec.{leb}
-use lib.ListN.{length, getD, set, replicate, length-set}
+use lib.ListN.{length, getD, set, length-set}
 use borrow.Author.Tests.{le-leb, leb-true, not-true}
 use Rattle.laws.specs.Says.{pick}
 use Rattle.laws.specs.Lists.{every, All, Some, Each, repeats}
+use Rattle.laws.proofs.Lists.{all-set, each-replicate}
 use Rattle.laws.proofs.Tests.{both, or-right}
 use Rattle.filter.specs.declared.component.Filter.{Filter}
 use Rattle.filter.specs.Coding.{held, wellCoded, emptyPlace}
 use Rattle.filter.specs.Ranges.{FilterInRange}
+use Rattle.filter.proofs.Ranges.{nothing-in-range}
 use Rattle.filter.proofs.Theorems.{fittable-says}
 use Rattle.filter.specs.Fittable.{placeFine}
 use Rattle.element.specs.declared.answer.SetOperation.{SetOperation}
@@ -23,31 +25,31 @@ use Rattle.element.specs.declared.answer.Element.{Element}
 use Rattle.element.specs.Numbers.{numberOf}
 use Rattle.filter.specs.Sizes.{placeCount}
 use Rattle.filter.specs.Build.{emptyFilter}
-use Rattle.element.specs.Read.{noFilters, noMarks, withoutSets, refused, Entry, precedenceOf, fits, Entries, badly, coded, entriesOf, twice, laid, filterSet, marked, identifierSet, judgedEntries, judgedFrame, readValue, readElement}
+use Rattle.element.specs.Read.{noFilters, noMarks, withoutSets, refused, Entry, precedenceOf, entryFittable, Entries, badly, coded, entriesOf, twice, inPlaces, filterSet, marked, identifierSet, judgedEntries, judgedFrame, readValue, readElement}
 use Rattle.element.specs.Framing.{Raw, Framed, notFramed, filters, identifiers, bare, framedOf}
-use Rattle.element.specs.Write.{entriesFrom, someButNotAll, rowGiven, marksFrom, marksGiven, given}
+use Rattle.element.specs.Write.{entriesFrom, oneToFifteen, rowGiven, marksFrom, marksGiven, given}
 use Rattle.element.specs.Meaning.{Octet, ElementInRange, NoPacketFits, SomeFilterUnfit}
 use Rattle.element.proofs.Decoded.{well-coded, EntryDecoded, OneTo15, FramedInto, framed-into, EntriesInto, entries-into}
 use Rattle.element.proofs.Laid.{precedences, entries-precedences, entries-count, distinct, laid-first, laid-every, marked-few, marked-some}
 
 -- ---- The reader refuses with the cause of step 8 exactly where a filter, all being well coded, fits no packet.
-some-unfit : (es : List Entry) → All EntryDecoded es → every fits es ≡ false → Some NoPacketFits es
+some-unfit : (es : List Entry) → All EntryDecoded es → every entryFittable es ≡ false → Some NoPacketFits es
 unfolding every
 some-unfit [] d q = absurd (false≢true (sym q))
-some-unfit (e ∷ es) d q = go (fits e) refl (some-unfit es (d .1))
+some-unfit (e ∷ es) d q = go (entryFittable e) refl (some-unfit es (d .1))
   where
-    go : (b : Bool) → fits e ≡ b → (every fits es ≡ false → Some NoPacketFits es) → Some NoPacketFits (e ∷ es)
-    go true f rest = inr (rest (ap (λ (b : Bool). b && every fits es) (sym f) ∙ q))
+    go : (b : Bool) → entryFittable e ≡ b → (every entryFittable es ≡ false → Some NoPacketFits es) → Some NoPacketFits (e ∷ es)
+    go true f rest = inr (rest (ap (λ (b : Bool). b && every entryFittable es) (sym f) ∙ q))
     go false f rest = inl (λ s. false≢true (sym f ∙ fittable-says (e .filter) (d .0 .filter .sound .inRange) .from s))
 
-not-every : (es : List Entry) → All EntryDecoded es → Some NoPacketFits es → every fits es ≡ false
+not-every : (es : List Entry) → All EntryDecoded es → Some NoPacketFits es → every entryFittable es ≡ false
 unfolding every
-not-every (e ∷ es) d (inl u) = go (fits e) refl
+not-every (e ∷ es) d (inl u) = go (entryFittable e) refl
   where
-    go : (b : Bool) → fits e ≡ b → b && every fits es ≡ false
+    go : (b : Bool) → entryFittable e ≡ b → b && every entryFittable es ≡ false
     go true f = absurd (u (fittable-says (e .filter) (d .0 .filter .sound .inRange) .to f))
     go false f = refl
-not-every (e ∷ es) d (inr u) = rw (not-every es (d .1) u) (and-false (fits e))
+not-every (e ∷ es) d (inr u) = rw (not-every es (d .1) u) (and-false (entryFittable e))
   where
     and-false : (b : Bool) → b && false ≡ false
     and-false true = refl
@@ -68,9 +70,9 @@ module _ (xs : List ℕ) (octets : All Octet xs) where
   module _ (short : length xs ≤ 255) (operation : SetOperation) (rs : List Raw) (framed : framedOf xs ≡ filters operation rs) where
     entries-say : (E : Entries) → entriesOf rs ≡ E → judgedEntries operation E ≡ refused Semantics → SomeFilterUnfit xs
     entries-say badly p q = absurd (another (refused Coding) 45 refl (λ e. omega arith) q)
-    entries-say (coded es) p q = go (every fits es) refl (twice es) q
+    entries-say (coded es) p q = go (every entryFittable es) refl (twice es) q
       where
-        go : (b : Bool) → every fits es ≡ b → (c : Bool) → pick b (pick c (refused Coding) (filterSet operation es)) (refused Semantics) ≡ refused Semantics
+        go : (b : Bool) → every entryFittable es ≡ b → (c : Bool) → pick b (pick c (refused Coding) (filterSet operation es)) (refused Semantics) ≡ refused Semantics
             → SomeFilterUnfit xs
         go true f true q = absurd (another (refused Coding) 45 refl (λ e. omega arith) q)
         go true f false q = absurd (another (filterSet operation es) 0 refl (λ e. omega arith) q)
@@ -109,19 +111,19 @@ pub semantics-says : (xs : List ℕ) → All Octet xs → (readElement xs ≡ re
 semantics-says xs octets = (element-says xs octets, unfit-refused xs octets)
 
 -- ---- Every operation read is one that the writer takes.
-some-not-all : (n : ℕ) → OneTo15 n → someButNotAll n ≡ true
+some-not-all : (n : ℕ) → OneTo15 n → oneToFifteen n ≡ true
 some-not-all n h = rw (le-leb 1 n (h .some), le-leb n 15 (h .few))
 
 row-given : (row : List Filter) → every placeFine row ≡ true → OneTo15 (length (precedences row)) → repeats (precedences row) ≡ false → rowGiven row ≡ true
 unfolding rowGiven
 row-given row p n fresh = rw (p, entries-count 0 row, some-not-all (length (precedences row)) n, entries-precedences 0 row, fresh)
 
-all-given : (es : List Entry) → All EntryDecoded es → every fits es ≡ true → All (λ e. placeFine (e .filter) ≡ true) es
+all-given : (es : List Entry) → All EntryDecoded es → every entryFittable es ≡ true → All (λ e. placeFine (e .filter) ≡ true) es
 unfolding every
 all-given [] d h = tt
 all-given (e ∷ es) d h =
-    let fit = both (fits e) (every fits es) h in
-    (or-right (emptyPlace (e .filter)) (wellCoded (e .filter) && fits e) (rw (well-coded (e .filter) (d .0 .filter), fit .0) refl), all-given es (d .1) (fit .1))
+    let fit = both (entryFittable e) (every entryFittable es) h in
+    (or-right (emptyPlace (e .filter)) (wellCoded (e .filter) && entryFittable e) (rw (well-coded (e .filter) (d .0 .filter), fit .0) refl), all-given es (d .1) (fit .1))
 
 -- no filter, and no mark
 none-held : every emptyPlace noFilters ≡ true
@@ -132,7 +134,7 @@ none-given : every placeFine noFilters ≡ true
 unfolding every noFilters emptyPlace held
 none-given = refl
 
-marks-none : (length noMarks ≡ 16) × (length (marksFrom 0 noMarks) ≡ 0)
+marks-none : (length noMarks ≡ placeCount) × (length (marksFrom 0 noMarks) ≡ 0)
 unfolding noMarks marksFrom
 marks-none = (refl, refl)
 
@@ -140,14 +142,14 @@ none-marked : every not noMarks ≡ true
 unfolding every noMarks
 none-marked = refl
 
-filters-given : (operation : SetOperation) (es : List Entry) → OneTo15 (length es) → All EntryDecoded es → every fits es ≡ true → twice es ≡ false
+filters-given : (operation : SetOperation) (es : List Entry) → OneTo15 (length es) → All EntryDecoded es → every entryFittable es ≡ true → twice es ≡ false
     → given (filterSet operation es) ≡ true
 unfolding given
 filters-given operation es n d f t =
     let holds = laid-first es d t in
-    let count : length (precedences (laid es noFilters)) ≡ length es = (let c = holds .count in omega arith) in
+    let count : length (precedences (inPlaces es noFilters)) ≡ length es = (let c = holds .count in omega arith) in
     let places = laid-every placeFine es noFilters (all-given es d f) none-given in
-    rw (row-given (laid es noFilters) places (rw count n) (holds .fresh), none-marked)
+    rw (row-given (inPlaces es noFilters) places (rw count n) (holds .fresh), none-marked)
 
 identifiers-given : (xs : List ℕ) → OneTo15 (length xs) → given (identifierSet xs) ≡ true
 unfolding given marksGiven
@@ -162,12 +164,12 @@ identifiers-given xs n =
 module _ (n : ℕ) (count : OneTo15 n) (operation : SetOperation) where
   entries-given : (E : Entries) → EntriesInto n E → numberOf (judgedEntries operation E .answer) ≡ 0 → given (judgedEntries operation E) ≡ true
   entries-given badly d q = absurd (let z : _≡_ {A = ℕ} 45 0 = q in omega arith)
-  entries-given (coded es) d q = go (every fits es) refl (twice es) refl q
+  entries-given (coded es) d q = go (every entryFittable es) refl (twice es) refl q
     where
       judged : Bool → Bool → Element
       judged f t = pick f (pick t (refused Coding) (filterSet operation es)) (refused Semantics)
 
-      go : (f : Bool) → every fits es ≡ f → (t : Bool) → twice es ≡ t → numberOf (judged f t .answer) ≡ 0 → given (judged f t) ≡ true
+      go : (f : Bool) → every entryFittable es ≡ f → (t : Bool) → twice es ≡ t → numberOf (judged f t .answer) ≡ 0 → given (judged f t) ≡ true
       go true f true t q = absurd (let z : _≡_ {A = ℕ} 45 0 = q in omega arith)
       go true f false t q = filters-given operation es (rw (d .0) count) (d .1) f t
       go false f t u q = absurd (let z : _≡_ {A = ℕ} 44 0 = q in omega arith)
@@ -190,7 +192,7 @@ pub row-distinct : (row : List Filter) → rowGiven row ≡ true → (j l : ℕ)
 unfolding rowGiven
 row-distinct row g =
     let n = length (entriesFrom 0 row) in
-    let fresh = not-true (repeats (map precedenceOf (entriesFrom 0 row))) (both (every placeFine row && someButNotAll n) _ g .1) in
+    let fresh = not-true (repeats (map precedenceOf (entriesFrom 0 row))) (both (every placeFine row && oneToFifteen n) _ g .1) in
     distinct row (rw (entries-precedences 0 row) at fresh)
 
 -- what a value of at most 255 octets says
@@ -203,27 +205,12 @@ element-given xs octets = go (leb (length xs) 255)
     go false q = absurd (let z : _≡_ {A = ℕ} 42 0 = q in omega arith)
 
 -- ---- What is read is in the ranges of the code's types.
-module _ {A : Type 0} (P : A → Type 0) where
-  all-set : (l : List A) (i : ℕ) (a : A) → All P l → P a → All P (set l i a)
-  all-set [] i a h p = tt
-  all-set (x ∷ l) zero a h p = (p, h .1)
-  all-set (x ∷ l) (suc i) a h p = (h .0, all-set l i a (h .1) p)
-
-  all-replicate : (n : ℕ) (a : A) → P a → All P (replicate n a)
-  all-replicate zero a p = tt
-  all-replicate (suc n) a p = (p, all-replicate n a p)
-
 none-in-range : Each FilterInRange placeCount noFilters
 unfolding noFilters
-none-in-range =
-    record {
-      count = refl;
-      all = all-replicate FilterInRange placeCount emptyFilter
-          (record { precedence = omega arith; direction = omega arith; address = tt; protocol = tt; local = tt; remote = tt; index = tt; class = tt; label = tt });
-    }
+none-in-range = each-replicate FilterInRange placeCount emptyFilter nothing-in-range
 
-laid-in-range : (es : List Entry) (row : List Filter) → All EntryDecoded es → Each FilterInRange placeCount row → Each FilterInRange placeCount (laid es row)
-unfolding laid
+laid-in-range : (es : List Entry) (row : List Filter) → All EntryDecoded es → Each FilterInRange placeCount row → Each FilterInRange placeCount (inPlaces es row)
+unfolding inPlaces
 laid-in-range [] row d r = r
 laid-in-range (e ∷ es) row d r =
     laid-in-range es (set row (e .identifier) (e .filter)) (d .1)
@@ -242,7 +229,7 @@ without-in-range answer = record { filters = none-in-range; marks = marks-none .
 
 entries-in-range : (n : ℕ) (operation : SetOperation) (E : Entries) → EntriesInto n E → ElementInRange (judgedEntries operation E)
 entries-in-range n operation badly d = without-in-range (refused Coding .answer)
-entries-in-range n operation (coded es) d = go (every fits es) (twice es)
+entries-in-range n operation (coded es) d = go (every entryFittable es) (twice es)
   where
     go : (f t : Bool) → ElementInRange (pick f (pick t (refused Coding) (filterSet operation es)) (refused Semantics))
     go true true = without-in-range (refused Coding .answer)

@@ -11,24 +11,25 @@ use Rattle.laws.proofs.Parts.{all-drop}
 use Rattle.laws.proofs.Marks.{again, again-repeats}
 use Rattle.filter.specs.declared.component.Filter.{Filter}
 use Rattle.filter.specs.Build.{Component, ipv4Remote, ipv6Remote, protocol, localPort, localRange, remotePort, remoteRange, index, class, label, put, tooLarge, typeOf, excluded, added, bare}
+use Rattle.filter.specs.Sizes.{placeCount}
 use Rattle.element.specs.declared.answer.SetOperation.{SetOperation}
 use Rattle.element.specs.declared.contents.Coded.{Coded}
 use Rattle.element.specs.declared.contents.Coded.the-variants.{Badly, Well}
 use Rattle.element.specs.declared.judge.Judged.{Judged}
-use Rattle.element.specs.Read.{noFilters, noMarks, Entry, precedenceOf, fits, codedOf, Entries, badly, coded, withEntry, entriesOf, twice, laid, judgedEntries, judgedFrame}
+use Rattle.element.specs.Read.{noFilters, noMarks, Entry, precedenceOf, entryFittable, codedOf, Entries, badly, coded, withEntry, entriesOf, twice, inPlaces, judgedEntries, judgedFrame}
 use Rattle.element.specs.Contents.{lengthOf, known, componentOf, contentsFrom, contentsOf}
 use Rattle.element.specs.Framing.{Raw, identifierOf, directionOf, splitOf, framedOf}
-use Rattle.element.specs.Walk.{noPrecedences, judgeStart, judgedWith, judgedRaw, judgedSplit, verdictOf}
+use Rattle.element.specs.inner.Walk.{noPrecedences, judgeStart, judgedWith, judgedRaw, judgedSplit, verdictOf}
 use Rattle.element.specs.Meaning.{Octet}
 use Rattle.element.proofs.Splitting.{OctetPrecedence, narrow-precedences}
 use Rattle.element.proofs.Frames.{FiltersFramed}
 
 -- ---- decoding keeps the precedence and the direction of the filter that it starts from
-pub record Keeps (f g : Filter) : Type 0 where
+pub record SameStart (f g : Filter) : Type 0 where
   pub precedence : g .precedence ≡ f .precedence
   pub direction : g .direction ≡ f .direction
 
-put-keeps : (c : Component) (f : Filter) → Keeps f (put c f)
+put-keeps : (c : Component) (f : Filter) → SameStart f (put c f)
 put-keeps (ipv4Remote address mask) f = record { precedence = refl; direction = refl }
 put-keeps (ipv6Remote address mask) f = record { precedence = refl; direction = refl }
 put-keeps (protocol x) f = record { precedence = refl; direction = refl }
@@ -40,27 +41,27 @@ put-keeps (index x) f = record { precedence = refl; direction = refl }
 put-keeps (class x mask) f = record { precedence = refl; direction = refl }
 put-keeps (label x) f = record { precedence = refl; direction = refl }
 
-added-keeps : (f : Filter) (c : Component) → Keeps f (added f c)
+added-keeps : (f : Filter) (c : Component) → SameStart f (added f c)
 unfolding added
 added-keeps f c = go (tooLarge c || excluded f (typeOf c))
   where
-    go : (b : Bool) → Keeps f (pick b f (put c f))
+    go : (b : Bool) → SameStart f (pick b f (put c f))
     go true = record { precedence = refl; direction = refl }
     go false = put-keeps c f
 
-keeps-both : (f g h : Filter) → Keeps f g → Keeps g h → Keeps f h
+keeps-both : (f g h : Filter) → SameStart f g → SameStart g h → SameStart f h
 keeps-both f g h a b = record { precedence = b .precedence ∙ a .precedence; direction = b .direction ∙ a .direction }
 
 -- what was decoded, if it was, keeps those of f
-abbrev KeptBy : Filter → Coded → Type 0
-KeptBy f Badly = Unit {0}
-KeptBy f (Well g) = Keeps f g
+abbrev StartKept : Filter → Coded → Type 0
+StartKept f Badly = Unit {0}
+StartKept f (Well g) = SameStart f g
 
-kept-both : (f g : Filter) (r : Coded) → Keeps f g → KeptBy g r → KeptBy f r
+kept-both : (f g : Filter) (r : Coded) → SameStart f g → StartKept g r → StartKept f r
 kept-both f g Badly a b = tt
 kept-both f g (Well h) a b = keeps-both f g h a b
 
-from-keeps : (k : ℕ) (f : Filter) (xs : List ℕ) → KeptBy f (contentsFrom k f xs)
+from-keeps : (k : ℕ) (f : Filter) (xs : List ℕ) → StartKept f (contentsFrom k f xs)
 unfolding contentsFrom
 from-keeps zero f [] = record { precedence = refl; direction = refl }
 from-keeps (suc k) f [] = tt
@@ -70,17 +71,17 @@ from-keeps zero f (t ∷ xs) =
     g : Filter
     g = added f (componentOf t (take (lengthOf t) xs))
 
-    go : (b : Bool) → KeptBy g (contentsFrom (lengthOf t) g xs) → KeptBy f (pick b (contentsFrom (lengthOf t) g xs) Badly)
+    go : (b : Bool) → StartKept g (contentsFrom (lengthOf t) g xs) → StartKept f (pick b (contentsFrom (lengthOf t) g xs) Badly)
     go true h = kept-both f g (contentsFrom (lengthOf t) g xs) (added-keeps f (componentOf t (take (lengthOf t) xs))) h
     go false h = tt
 from-keeps (suc k) f (x ∷ xs) = from-keeps k f xs
 
-keeps : (f : Filter) (xs : List ℕ) → KeptBy f (contentsOf f xs)
+keeps : (f : Filter) (xs : List ℕ) → StartKept f (contentsOf f xs)
 unfolding contentsOf
 keeps f [] = tt
 keeps f (t ∷ xs) = from-keeps 0 f (t ∷ xs)
 
-pub coded-keeps : (f : Filter) (xs : List ℕ) (g : Filter) → contentsOf f xs ≡ Well g → Keeps f g
+pub coded-keeps : (f : Filter) (xs : List ℕ) (g : Filter) → contentsOf f xs ≡ Well g → SameStart f g
 coded-keeps f xs g e = rw e at (keeps f xs)
 
 -- ---- the filters that are well coded, one after the other
@@ -89,7 +90,7 @@ judgedEntry st e = judgedWith st (e .identifier) (Well (e .filter))
 
 -- an entry as octets give it
 record Small (e : Entry) : Type 0 where
-  identifier : e .identifier < 16
+  identifier : e .identifier < placeCount
   precedence : precedenceOf e < 256
 
 -- r is what the raw filters after st give, where their entries are these: badly, or each entry judged
@@ -131,8 +132,8 @@ unfolding fold judgedEntry
 judged-badly st [] = refl
 judged-badly st (e ∷ es) = judged-badly (judgedEntry st e) es
 
-judged-row : (st : Judged) (es : List Entry) → fold judgedEntry st es .row ≡ laid es (st .row)
-unfolding fold judgedEntry laid
+judged-row : (st : Judged) (es : List Entry) → fold judgedEntry st es .row ≡ inPlaces es (st .row)
+unfolding fold judgedEntry inPlaces
 judged-row st [] = refl
 judged-row st (e ∷ es) = judged-row (judgedEntry st e) es
 
@@ -141,10 +142,10 @@ or-not true a b = refl
 or-not false true b = refl
 or-not false false b = refl
 
-judged-unfit : (st : Judged) (es : List Entry) → fold judgedEntry st es .unfit ≡ st .unfit || not (every fits es)
+judged-unfit : (st : Judged) (es : List Entry) → fold judgedEntry st es .unfit ≡ st .unfit || not (every entryFittable es)
 unfolding fold judgedEntry every
 judged-unfit st [] = sym (or-false (st .unfit))
-judged-unfit st (e ∷ es) = judged-unfit (judgedEntry st e) es ∙ or-not (st .unfit) (fits e) (every fits es)
+judged-unfit st (e ∷ es) = judged-unfit (judgedEntry st e) es ∙ or-not (st .unfit) (entryFittable e) (every entryFittable es)
 
 regroup : (a b i p : Bool) → (a || b) || i || p ≡ (a || i) || (b || p)
 regroup true b i p = refl
@@ -161,7 +162,7 @@ judged-repeated st (e ∷ es) a b h =
     (rw h (regroup a b (getD (st .identifiers) (e .identifier) false) (getD (st .precedences) (precedenceOf e) false)))
 
 -- ---- from the start
-small-identifiers : (es : List Entry) → All Small es → All (λ x. x < 16) (map (λ e. e .identifier) es)
+small-identifiers : (es : List Entry) → All Small es → All (λ x. x < placeCount) (map (λ e. e .identifier) es)
 small-identifiers [] h = tt
 small-identifiers (e ∷ es) h = (h .0 .identifier, small-identifiers es (h .1))
 
@@ -179,9 +180,9 @@ pick-not : {A : Type 0} (b : Bool) (x y : A) → pick (not b) x y ≡ pick b y x
 pick-not true x y = refl
 pick-not false x y = refl
 
-verdict-at : (operation : SetOperation) (r : Judged) (es : List Entry) → r .badly ≡ false → r .row ≡ laid es noFilters → r .unfit ≡ not (every fits es)
+verdict-at : (operation : SetOperation) (r : Judged) (es : List Entry) → r .badly ≡ false → r .row ≡ inPlaces es noFilters → r .unfit ≡ not (every entryFittable es)
     → r .repeated ≡ twice es → verdictOf operation r ≡ judgedEntries operation (coded es)
-verdict-at operation r es hb hr hu ht = rw (hb, hu, ht, hr) (pick-not (every fits es) _ _)
+verdict-at operation r es hb hr hu ht = rw (hb, hu, ht, hr) (pick-not (every entryFittable es) _ _)
 
 judged-verdict : (operation : SetOperation) (r : Judged) (es : Entries) → Follows judgeStart r es → verdictOf operation r ≡ judgedEntries operation es
 judged-verdict operation r badly h = rw h

@@ -17,7 +17,8 @@ use Rattle.laws.proofs.Tests.{or-right, neither}
 use Rattle.filter.specs.declared.component.Filter.{Filter}
 use Rattle.filter.specs.Coding.{held}
 use Rattle.filter.specs.Build.{emptyFilter}
-use Rattle.element.specs.Read.{noFilters, Entry, precedenceOf, twice, laid, marked}
+use Rattle.filter.specs.Sizes.{placeCount}
+use Rattle.element.specs.Read.{noFilters, Entry, precedenceOf, twice, inPlaces, marked}
 use Rattle.element.specs.Write.{entriesFrom, marksFrom}
 use Rattle.element.proofs.Decoded.{EntryDecoded}
 
@@ -114,10 +115,10 @@ pub record Holds (ps : List ℕ) (es : List Entry) (row : List Filter) : Type 0 
   pub count : length (precedences row) ≡ length es + length ps
   pub fresh : repeats (precedences row) ≡ false
 
-laid-holds : (es : List Entry) (row : List Filter) → length row ≡ 16 → All EntryDecoded es
+laid-holds : (es : List Entry) (row : List Filter) → length row ≡ placeCount → All EntryDecoded es
     → repeats (map (λ e. e .identifier) es) ≡ false → repeats (map precedenceOf es) ≡ false
-    → All (Free row) es → All (New (precedences row)) es → repeats (precedences row) ≡ false → Holds (precedences row) es (laid es row)
-unfolding laid
+    → All (Free row) es → All (New (precedences row)) es → repeats (precedences row) ≡ false → Holds (precedences row) es (inPlaces es row)
+unfolding inPlaces
 laid-holds [] row l d i p free new fresh = record { count = sym (zero-add _); fresh = fresh }
 laid-holds (e ∷ es) row l d i p free new fresh =
     let ids = no-repeat (e .identifier) (map (λ e. e .identifier) es) i in
@@ -130,7 +131,7 @@ laid-holds (e ∷ es) row l d i p free new fresh =
 all-free : (es : List Entry) → All EntryDecoded es → All (Free noFilters) es
 unfolding noFilters held
 all-free [] d = tt
-all-free (e ∷ es) d = (rw (getD-replicate 16 (e .identifier) emptyFilter emptyFilter (d .0 .identifier)) refl, all-free es (d .1))
+all-free (e ∷ es) d = (rw (getD-replicate placeCount (e .identifier) emptyFilter emptyFilter (d .0 .identifier)) refl, all-free es (d .1))
 
 all-new : (es : List Entry) → All (New []) es
 unfolding isIn
@@ -142,14 +143,14 @@ unfolding precedences noFilters held
 none-held = refl
 
 -- from a row that holds none
-pub laid-first : (es : List Entry) → All EntryDecoded es → twice es ≡ false → Holds [] es (laid es noFilters)
+pub laid-first : (es : List Entry) → All EntryDecoded es → twice es ≡ false → Holds [] es (inPlaces es noFilters)
 unfolding twice noFilters repeats
 laid-first es d t =
     let apart = neither (repeats (map (λ e. e .identifier) es)) (repeats (map precedenceOf es)) t in
     rw none-held at (laid-holds es noFilters refl d (apart .0) (apart .1) (all-free es d) (rw none-held (all-new es)) (rw none-held refl))
 
-pub laid-every : (test : Filter → Bool) (es : List Entry) (row : List Filter) → All (λ e. test (e .filter) ≡ true) es → every test row ≡ true → every test (laid es row) ≡ true
-unfolding laid
+pub laid-every : (test : Filter → Bool) (es : List Entry) (row : List Filter) → All (λ e. test (e .filter) ≡ true) es → every test row ≡ true → every test (inPlaces es row) ≡ true
+unfolding inPlaces
 laid-every test [] row h e = e
 laid-every test (x ∷ es) row h e = laid-every test es (set row (x .identifier) (x .filter)) (h .1) (every-set test row (x .identifier) (x .filter) e (h .0))
 
@@ -180,7 +181,7 @@ marked-few (x ∷ xs) marks =
     let g = marks-set marks 0 (x % 16) in
     (omega arith, omega arith)
 
-pub marked-some : (xs : List ℕ) (marks : List Bool) → length marks ≡ 16 → 1 ≤ length xs → 1 ≤ marksCount 0 (marked xs marks)
+pub marked-some : (xs : List ℕ) (marks : List Bool) → length marks ≡ placeCount → 1 ≤ length xs → 1 ≤ marksCount 0 (marked xs marks)
 unfolding marked
 marked-some [] marks e l = absurd (not-suc-le-zero l)
 marked-some (x ∷ xs) marks e l =

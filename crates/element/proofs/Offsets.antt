@@ -19,7 +19,7 @@ use Rattle.element.specs.declared.entries.Handed.the-variants.{Identifie
 use Rattle.element.specs.Framing.{Raw, identifierIn, Split, cut, split, after, splitOf, Framed, notFramed, filters, identifiers, bare, framedOf}
 use Rattle.element.specs.Read.{codedOf}
 use Rattle.element.specs.Entries.{Placed, codedFilter, placedFilter, placedFilters, placedIdentifiers, placedIn, placedOf, placedAt, afterAt}
-use Rattle.element.specs.Walk.{frameOf, rawAt, whole, placedSplit, beginsAt}
+use Rattle.element.specs.inner.Walk.{frameOf, rawAt, whole, placedSplit, beginsAt}
 use Rattle.element.proofs.Splitting.{split-inside, split-next, whole-after}
 use Rattle.element.proofs.Frames.{FiltersFramed, IdentifiersFramed, not-framed, bare-framed}
 

@@ -20,7 +20,7 @@ use Rattle.element.specs.declared.contents.Coded.the-variants.{Badly, We
 use Rattle.element.specs.declared.contents.Step.{Step}
 use Rattle.element.specs.declared.contents.Step.the-variants.{Halt, Next}
 use Rattle.element.specs.Contents.{lengthOf, known, componentOf, contentsFrom, contentsOf}
-use Rattle.element.specs.Walk.{stepAt}
+use Rattle.element.specs.inner.Walk.{stepAt}
 
 -- what is to pass, passed
 pub pass : (k : ℕ) (f : Filter) (xs : List ℕ) → k ≤ length xs → contentsFrom k f xs ≡ contentsFrom 0 f (drop k xs)

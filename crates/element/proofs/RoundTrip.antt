@@ -18,6 +18,7 @@ use Rattle.filter.specs.Coding.{held, wellCoded, emptyPlace}
 use Rattle.filter.specs.Fittable.{fittable, placeFine}
 use Rattle.filter.specs.Ranges.{FilterInRange}
 use Rattle.filter.proofs.Empty.{empty-says}
+use Rattle.filter.specs.Sizes.{placeCount}
 use Rattle.element.specs.declared.answer.SetOperation.{SetOperation}
 use Rattle.element.specs.declared.answer.SetOperation.the-variants.{Create, Add, Replace}
 use Rattle.element.specs.declared.answer.BareOperation.{BareOperation}
@@ -27,9 +28,9 @@ use Rattle.element.specs.declared.answer.Answer.the-variants.{Filters, I
 use Rattle.element.specs.declared.answer.Element.{Element}
 use Rattle.element.specs.declared.contents.Coded.the-variants.{Well}
 use Rattle.filter.specs.Build.{emptyFilter}
-use Rattle.element.specs.Read.{noFilters, noMarks, withoutSets, Entry, precedenceOf, fits, codedOf, coded, entriesOf, twice, laid, marked, readValue}
+use Rattle.element.specs.Read.{noFilters, noMarks, withoutSets, Entry, precedenceOf, entryFittable, codedOf, coded, entriesOf, twice, inPlaces, marked, readValue}
 use Rattle.element.specs.Framing.{Raw, identifierOf, directionOf, split, splitOf, restFits, framedSet, framedBy, framedOf, filters, identifiers}
-use Rattle.element.specs.Write.{contentsOctets, entryOctets, entriesFrom, entriesOctets, marksFrom, setNumber, octetsBy, octetsOf, someButNotAll, rowGiven, marksGiven, givenBy, given}
+use Rattle.element.specs.Write.{contentsOctets, entryOctets, entriesFrom, entriesOctets, marksFrom, setNumber, octetsBy, octetsOf, oneToFifteen, rowGiven, marksGiven, givenBy, given}
 use Rattle.element.specs.Meaning.{Octet, ElementInRange}
 use Rattle.element.proofs.RoundContents.{WellCoded, well-coded, contents-round, contents-many}
 
@@ -37,8 +38,8 @@ use Rattle.element.proofs.RoundContents.{WellCoded, well-coded, content
 record Good (e : Entry) : Type 0 where
   inRange : FilterInRange (e .filter)
   well : WellCoded (e .filter)
-  fits : fits e ≡ true
-  below : e .identifier < 16
+  fits : entryFittable e ≡ true
+  below : e .identifier < placeCount
 
 abbrev rawOf : Entry → Raw
 rawOf e =
@@ -84,21 +85,21 @@ record Row (i : ℕ) (fs : List Filter) (es : List Entry) : Type 0 where
   good : All Good es
   above : (x : ℕ) → x < i → isIn x (map (λ e. e .identifier) es) ≡ false
   once : repeats (map (λ e. e .identifier) es) ≡ false
-  back : (front : List Filter) → length front ≡ i → laid es (front ++ replicate (length fs) emptyFilter) ≡ front ++ fs
+  back : (front : List Filter) → length front ≡ i → inPlaces es (front ++ replicate (length fs) emptyFilter) ≡ front ++ fs
 
 row-none : (i : ℕ) → Row i [] []
-unfolding isIn repeats laid
+unfolding isIn repeats inPlaces
 row-none i = record { good = tt; above = λ x h. refl; once = refl; back = λ front e. refl }
 
 row-held : (i : ℕ) (f : Filter) (fs : List Filter) (es : List Entry) → Good (record { identifier = i; filter = f }) → Row (suc i) fs es
     → Row i (f ∷ fs) (record { identifier = i; filter = f } ∷ es)
-unfolding isIn repeats laid
+unfolding isIn repeats inPlaces
 row-held i f fs es g r =
     record {
       good = (g, r .good);
       above = λ x h. rw (ne-eqb x i (λ e. omega arith), r .above x (omega arith));
       once = rw (r .above i (omega arith), r .once);
-      back = λ front e. ap (laid es) (snoc-set front emptyFilter _ f i e) ∙ r .back (front ++ (f ∷ [])) (snoc-long front f i e) ∙ append-snoc front f fs;
+      back = λ front e. ap (inPlaces es) (snoc-set front emptyFilter _ f i e) ∙ r .back (front ++ (f ∷ [])) (snoc-long front f i e) ∙ append-snoc front f fs;
     }
 
 row-empty : (i : ℕ) (f : Filter) (fs : List Filter) (es : List Entry) → f ≡ emptyFilter → Row (suc i) fs es → Row i (f ∷ fs) es
@@ -109,7 +110,7 @@ row-empty i f fs es o r =
       once = r .once;
       back = λ front e.
           rw o
-          (ap (laid es) (sym (append-snoc front emptyFilter _))
+          (ap (inPlaces es) (sym (append-snoc front emptyFilter _))
           ∙ r .back (front ++ (emptyFilter ∷ [])) (snoc-long front emptyFilter i e)
           ∙ append-snoc front emptyFilter fs);
     }
@@ -123,7 +124,7 @@ place-cases f e =
     (λ g. let w = well-coded f (both (wellCoded f) (fittable f) g .0) in inl (w .held, w, both (wellCoded f) (fittable f) g .1))
     (either (emptyPlace f) (wellCoded f && fittable f) e)
 
-row-of : (i : ℕ) (fs : List Filter) → i + length fs ≤ 16 → All FilterInRange fs → every placeFine fs ≡ true → Row i fs (entriesFrom i fs)
+row-of : (i : ℕ) (fs : List Filter) → i + length fs ≤ placeCount → All FilterInRange fs → every placeFine fs ≡ true → Row i fs (entriesFrom i fs)
 unfolding entriesFrom every
 row-of i [] l r g = row-none i
 row-of i (f ∷ fs) l r g =
@@ -133,12 +134,12 @@ row-of i (f ∷ fs) l r g =
     (λ h. rw (h .0) (row-held i f fs _ (record { inRange = r .0; well = h .1; fits = h .2; below = omega arith }) more))
     (λ h. rw (h .0) (row-empty i f fs _ (h .1) more)) (place-cases f (here .0))
 
-row-back : (row : List Filter) (es : List Entry) → length row ≡ 16 → Row 0 row es → laid es noFilters ≡ row
+row-back : (row : List Filter) (es : List Entry) → length row ≡ placeCount → Row 0 row es → inPlaces es noFilters ≡ row
 unfolding noFilters
-row-back row es l r = ap (λ (n : ℕ). laid es (replicate n emptyFilter)) (sym l) ∙ r .back [] refl
+row-back row es l r = ap (λ (n : ℕ). inPlaces es (replicate n emptyFilter)) (sym l) ∙ r .back [] refl
 
 -- ---- the marks, counted from i
-marks-from : (i : ℕ) (ms front : List Bool) → i + length ms ≤ 16 → length front ≡ i
+marks-from : (i : ℕ) (ms front : List Bool) → i + length ms ≤ placeCount → length front ≡ i
     → marked (marksFrom i ms) (front ++ replicate (length ms) false) ≡ front ++ ms
 unfolding marked marksFrom
 marks-from i [] front l e = refl
@@ -152,18 +153,18 @@ marks-from i (false ∷ ms) front l e =
     ∙ marks-from (suc i) ms (front ++ (false ∷ [])) (omega arith) (snoc-long front false i e)
     ∙ append-snoc front false ms
 
-marks-back : (marks : List Bool) → length marks ≡ 16 → marked (marksFrom 0 marks) noMarks ≡ marks
+marks-back : (marks : List Bool) → length marks ≡ placeCount → marked (marksFrom 0 marks) noMarks ≡ marks
 unfolding noMarks
 marks-back marks l = ap (λ (n : ℕ). marked (marksFrom 0 marks) (replicate n false)) (sym l) ∙ marks-from 0 marks [] (omega arith) refl
 
 -- ---- places all alike
-empty-row : (row : List Filter) → length row ≡ 16 → every emptyPlace row ≡ true → row ≡ noFilters
+empty-row : (row : List Filter) → length row ≡ placeCount → every emptyPlace row ≡ true → row ≡ noFilters
 unfolding noFilters
-empty-row row l e = all-alike emptyPlace emptyFilter empty-place 16 row l e
+empty-row row l e = all-alike emptyPlace emptyFilter empty-place placeCount row l e
 
-empty-marks : (marks : List Bool) → length marks ≡ 16 → every not marks ≡ true → marks ≡ noMarks
+empty-marks : (marks : List Bool) → length marks ≡ placeCount → every not marks ≡ true → marks ≡ noMarks
 unfolding noMarks
-empty-marks marks l e = all-alike not false not-true 16 marks l e
+empty-marks marks l e = all-alike not false not-true placeCount marks l e
 
 -- ---- the first octet
 first-octet : (k n : ℕ) (xs : List ℕ) → n < 16 → framedOf ((k * 32 + n) ∷ xs) ≡ framedBy k 0 n xs
@@ -186,7 +187,7 @@ record Counted (n : ℕ) : Type 0 where
   some : 1 ≤ n
   few : n ≤ 15
 
-counted : (n : ℕ) → someButNotAll n ≡ true → Counted n
+counted : (n : ℕ) → oneToFifteen n ≡ true → Counted n
 counted n e =
     let h = both (leb 1 n) (leb n 15) e in
     record { some = leb-true 1 n (h .0); few = leb-true n 15 (h .1) }
@@ -210,12 +211,12 @@ record RowGiven (row : List Filter) : Type 0 where
   held : Row 0 row (entriesFrom 0 row)
   precedences : repeats (map precedenceOf (entriesFrom 0 row)) ≡ false
 
-row-given : (row : List Filter) → Each FilterInRange 16 row → rowGiven row ≡ true → RowGiven row
+row-given : (row : List Filter) → Each FilterInRange placeCount row → rowGiven row ≡ true → RowGiven row
 unfolding rowGiven
 row-given row r e =
     let es = entriesFrom 0 row in
-    let all = both (every placeFine row && someButNotAll (length es)) (not (repeats (map precedenceOf es))) e in
-    let places = both (every placeFine row) (someButNotAll (length es)) (all .0) in
+    let all = both (every placeFine row && oneToFifteen (length es)) (not (repeats (map precedenceOf es))) e in
+    let places = both (every placeFine row) (oneToFifteen (length es)) (all .0) in
     record {
       count = counted (length es) (places .1);
       held = row-of 0 row (omega (arith, r .count)) (r .all) (places .0);
@@ -223,7 +224,7 @@ row-given row r e =
     }
 
 -- ---- the four answers
-all-fit : (es : List Entry) → All Good es → every fits es ≡ true
+all-fit : (es : List Entry) → All Good es → every entryFittable es ≡ true
 unfolding every
 all-fit [] g = refl
 all-fit (e ∷ es) g = rw (g .0 .fits) (all-fit es (g .1))
@@ -233,7 +234,7 @@ unfolding readValue framedOf framedBy restFits
 bare-round DeleteTft = refl
 bare-round NoOperation = refl
 
-round-by : (answer : Answer) (row : List Filter) (marks : List Bool) → Each FilterInRange 16 row → length marks ≡ 16 → givenBy answer row marks ≡ true
+round-by : (answer : Answer) (row : List Filter) (marks : List Bool) → Each FilterInRange placeCount row → length marks ≡ placeCount → givenBy answer row marks ≡ true
     → readValue (octetsBy answer row marks) ≡ record { answer = answer; filters = row; marks = marks }
 unfolding readValue marksGiven twice
 round-by (Filters operation) row marks r l e =
@@ -271,7 +272,7 @@ entries-octets (e ∷ es) g =
     let rest = all-append Octet (contentsOctets (e .filter)) (entriesOctets es) (many .each) (entries-octets es (g .1)) in
     (omega (arith, g .0 .below), (g .0 .inRange .precedence, (omega arith, rest)))
 
-marks-octets : (i : ℕ) (ms : List Bool) → i + length ms ≤ 16 → All Octet (marksFrom i ms)
+marks-octets : (i : ℕ) (ms : List Bool) → i + length ms ≤ placeCount → All Octet (marksFrom i ms)
 unfolding marksFrom
 marks-octets i [] l = tt
 marks-octets i (true ∷ ms) l = (omega arith, marks-octets (suc i) ms (omega arith))
@@ -282,7 +283,7 @@ set-number Create = omega arith
 set-number Add = omega arith
 set-number Replace = omega arith
 
-octets-by : (answer : Answer) (row : List Filter) (marks : List Bool) → Each FilterInRange 16 row → length marks ≡ 16 → givenBy answer row marks ≡ true
+octets-by : (answer : Answer) (row : List Filter) (marks : List Bool) → Each FilterInRange placeCount row → length marks ≡ placeCount → givenBy answer row marks ≡ true
     → All Octet (octetsBy answer row marks)
 unfolding marksGiven
 octets-by (Filters operation) row marks r l e =

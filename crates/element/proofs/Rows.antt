@@ -16,7 +16,7 @@ use Rattle.filter.specs.Coding.{held, wellCoded, emptyPlace}
 use Rattle.filter.specs.Fittable.{fittable, placeFine}
 use Rattle.element.specs.Read.{Entry}
 use Rattle.element.specs.Write.{entryOctets, entriesFrom, entriesOctets, marksFrom}
-use Rattle.element.specs.Walk.{placeOctets, markOctets}
+use Rattle.element.specs.inner.Walk.{placeOctets, markOctets}
 
 one-more : {A : Type 0} (b : Bool) (x : A) (xs : List A) → pick b (x ∷ xs) xs ≡ pick b (x ∷ []) [] ++ xs
 one-more true x xs = refl

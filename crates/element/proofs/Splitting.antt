@@ -14,7 +14,7 @@ use Rattle.laws.proofs.Parts.{drop-next}
 use Rattle.laws.proofs.Parts.{all-drop}
 use Rattle.element.specs.declared.judge.Judged.{Judged}
 use Rattle.element.specs.Framing.{Raw, Split, cut, split, after, splitOf}
-use Rattle.element.specs.Walk.{rawAt, whole, judgedRaw, judgedSplit}
+use Rattle.element.specs.inner.Walk.{rawAt, whole, judgedRaw, judgedSplit}
 use Rattle.element.specs.Meaning.{Octet}
 
 abbrev pub OctetPrecedence : Raw → Type 0

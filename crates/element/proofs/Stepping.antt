@@ -23,7 +23,7 @@ use Rattle.element.specs.declared.entries.Handed.{Handed}
 use Rattle.element.specs.declared.entries.Handed.the-variants.{Filter, Identifier, Refused, End}
 use Rattle.element.specs.Numbers.{causeNumber, numberOf, handedNumber}
 use Rattle.element.specs.Framing.{Raw, identifierIn, identifierOf, Framed, notFramed, filters, identifiers, bare, framedOf}
-use Rattle.element.specs.Read.{noFilters, noMarks, refused, Entry, fits, codedOf, Entries as DecodedEntries, badly, coded, withEntry, entriesOf, twice, laid, filterSet, marked, judgedEntries, judgedFrame, readValue, readElement}
+use Rattle.element.specs.Read.{noFilters, noMarks, refused, Entry, entryFittable, codedOf, Entries as DecodedEntries, badly, coded, withEntry, entriesOf, twice, inPlaces, filterSet, marked, judgedEntries, judgedFrame, readValue, readElement}
 use Rattle.element.specs.Entries.{Placed, codedFilter, placedFilter, placedFilters, placedIdentifiers, placedIn, placedOf, handedOut, nthBy, nthOf, startBy, startOf, placedAt, lookAt, afterAt, afterAll, IsEntry, Shows, StepsThrough, emptySets, setsOf, laidInto, HandsOutAll, HandsOutCause, Everywhere}
 use Rattle.element.proofs.Offsets.{nothingAt, nothing-there, Chained, placed-chained, nothing-before}
 
@@ -102,8 +102,8 @@ identifiers-handed at [] = refl
 identifiers-handed at (x ∷ xs) = ap (λ (hs : List Handed). Identifier (identifierIn x) ∷ hs) (identifiers-handed (at + 1) xs)
 
 filters-lay : (es : List Entry) (row : List PacketFilter) (marks : List Bool)
-    → fold laidInto (record { filters = row; marks = marks }) (handed es) ≡ record { filters = laid es row; marks = marks }
-unfolding fold laid
+    → fold laidInto (record { filters = row; marks = marks }) (handed es) ≡ record { filters = inPlaces es row; marks = marks }
+unfolding fold inPlaces
 filters-lay [] row marks = refl
 filters-lay (e ∷ es) row marks = filters-lay es (set row (e .identifier) (e .filter)) marks
 
@@ -130,7 +130,7 @@ record HandsFrame (F : Framed) (hs : List Handed) : Type 0 where
 module _ (operation : SetOperation) (rs : List Raw) where
   entries-hand : (hs : List Handed) (E : DecodedEntries) → entriesOf rs ≡ E → HandedAs hs E → numberOf (judgedEntries operation E .answer) ≡ 0 → HandsFrame (filters operation rs) hs
   entries-hand hs badly e h q = absurd (let z : _≡_ {A = ℕ} 45 0 = q in omega arith)
-  entries-hand hs (coded es) e h q = rw h (record { entries = filters-entries es; sets = rw e (go (every fits es) (twice es) q) })
+  entries-hand hs (coded es) e h q = rw h (record { entries = filters-entries es; sets = rw e (go (every entryFittable es) (twice es) q) })
     where
       judged : Bool → Bool → Element
       judged b c = pick b (pick c (refused Coding) (filterSet operation es)) (refused Semantics)

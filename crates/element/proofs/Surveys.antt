@@ -18,7 +18,7 @@ use Rattle.element.specs.declared.survey.Survey.{Survey}
 use Rattle.filter.specs.Sizes.{placeCount, precedenceCount}
 use Rattle.element.specs.Read.{Entry, precedenceOf}
 use Rattle.element.specs.Write.{entriesFrom, rowGiven}
-use Rattle.element.specs.Walk.{noPrecedences, surveyStart, surveyedBy, surveyed}
+use Rattle.element.specs.inner.Walk.{noPrecedences, surveyStart, surveyedBy, surveyed}
 
 -- a place adds one at most
 pub survey-more : (st : Survey) (f : Filter) → surveyed st f .count ≤ st .count + 1

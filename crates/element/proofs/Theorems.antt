@@ -21,7 +21,7 @@ use Rattle.element.specs.declared.write.Written.the-variants.{Wrote}
 use Rattle.element.specs.Numbers.{numberOf}
 use Rattle.element.specs.Head.{longest, operationOf, create, extensionIn, countIn}
 use Rattle.element.specs.Framing.{Raw, Split, cut, split, splitOf, restFits, notFramed, filters, framedSplit, framedSet, framedBy, framedOf}
-use Rattle.element.specs.Read.{refused, fits, Entries, badly, coded, entriesOf, twice, filterSet, judgedEntries, judgedFrame, readValue, readElement}
+use Rattle.element.specs.Read.{refused, entryFittable, Entries, badly, coded, entriesOf, twice, filterSet, judgedEntries, judgedFrame, readValue, readElement}
 use Rattle.element.specs.Write.{octetsOf, givenBy, given, writtenBy, writeOf}
 use Rattle.element.specs.Meaning.{Octet, ElementInRange, ReadsAs, IsCause, SomeFilterUnfit}
 use Rattle.element.proofs.RoundTrip.{round, octets-octets}
@@ -81,7 +81,7 @@ a-cause cause = inr (record { refusal = record { cause = cause }; is = refl })
 
 entries-create : (es : Entries) → CreateOrCause (judgedEntries Create es .answer)
 entries-create badly = a-cause Coding
-entries-create (coded es) = go (every fits es) (twice es)
+entries-create (coded es) = go (every entryFittable es) (twice es)
   where
     go : (b c : Bool) → CreateOrCause (pick b (pick c (refused Coding) (filterSet Create es)) (refused Semantics) .answer)
     go true true = a-cause Coding

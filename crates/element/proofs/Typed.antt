@@ -2,7 +2,6 @@
 use mathlib.Core.Path.{_≡_}
 use mathlib.Core.Bool.{Bool}
 use mathlib.Core.List.{List}
-use Prim.Native.Nat.{ℕ, _≤_}
 use mir.Val.{Val}
 use denote.Laws.{Is}
 use denote.Array.{Array}
@@ -19,7 +18,6 @@ use Rattle.element.proofs.answer.Element as element
 use Rattle.element.proofs.judge.Judged as judged
 use Rattle.element.proofs.survey.Survey as survey
 use Rattle.element.specs.declared.judge.Judged.{Judged}
-use Rattle.element.specs.declared.survey.Survey.{Survey}
 use Rattle.filter.specs.Sizes.{placeCount, precedenceCount}
 use Rattle.element.specs.Meaning.{ElementInRange}
 

@@ -31,7 +31,7 @@ use Rattle.element.specs.declared.fields.Field.{Field}
 use Rattle.element.specs.declared.fields.Field.the-variants.{No, Wide}
 use Rattle.element.specs.Contents.{lengthOf}
 use Rattle.element.specs.Write.{addressBytes, remoteOctets, protocolOctets, portOctets, indexOctets, classOctets, labelOctets, contentsOctets}
-use Rattle.element.specs.Walk.{fieldOctets, narrow, remoteField, protocolField, portField, indexField, classField, labelField, fieldsOf, fieldsOctets}
+use Rattle.element.specs.inner.Walk.{fieldOctets, narrow, remoteField, protocolField, portField, indexField, classField, labelField, fieldsOf, fieldsOctets}
 
 -- ---- one component after the other
 module _ (fs : List Field) (i : ℕ) where

@@ -39,8 +39,8 @@ pub record Entry : Type 0 where
 abbrev pub precedenceOf : Entry → ℕ
 precedenceOf e = e .filter .precedence
 
-abbrev pub fits : Entry → Bool
-fits e = fittable (e .filter)
+abbrev pub entryFittable : Entry → Bool
+entryFittable e = fittable (e .filter)
 
 -- ---- Step 7: "A badly coded filter"
 unfoldable pub codedOf : Raw → Coded
@@ -64,12 +64,12 @@ unfoldable pub twice : List Entry → Bool
 twice es = repeats (map (λ e. e .identifier) es) || repeats (map precedenceOf es)
 
 -- "a filter with identifier n stands in place n"
-unfoldable pub laid : List Entry → List Filter → List Filter
-laid [] row = row
-laid (e ∷ es) row = laid es (set row (e .identifier) (e .filter))
+unfoldable pub inPlaces : List Entry → List Filter → List Filter
+inPlaces [] row = row
+inPlaces (e ∷ es) row = inPlaces es (set row (e .identifier) (e .filter))
 
 abbrev pub filterSet : SetOperation → List Entry → Element
-filterSet operation es = record { answer = Filters operation; filters = laid es noFilters; marks = noMarks }
+filterSet operation es = record { answer = Filters operation; filters = inPlaces es noFilters; marks = noMarks }
 
 -- "repeats are one deletion"
 unfoldable pub marked : List ℕ → List Bool → List Bool
@@ -83,7 +83,7 @@ identifierSet xs = record { answer = Identifiers; filters = noFilters; marks = m
 abbrev pub judgedEntries : SetOperation → Entries → Element
 judgedEntries operation badly = refused Coding
 judgedEntries operation (coded es) =
-    pick (every fits es) (pick (twice es) (refused Coding) (filterSet operation es)) (refused Semantics)
+    pick (every entryFittable es) (pick (twice es) (refused Coding) (filterSet operation es)) (refused Semantics)
 
 abbrev pub judgedFrame : Framed → Element
 judgedFrame notFramed = refused Operation

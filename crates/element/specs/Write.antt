@@ -116,14 +116,14 @@ octetsOf e = octetsBy (e .answer) (e .filters) (e .marks)
 
 -- ---- "An operation is a set of filters or of identifiers, at most 15"; what the reader could give
 -- at least one and at most 15
-abbrev pub someButNotAll : ℕ → Bool
-someButNotAll n = leb 1 n && leb n 15
+abbrev pub oneToFifteen : ℕ → Bool
+oneToFifteen n = leb 1 n && leb n 15
 
 unfoldable pub rowGiven : List Filter → Bool
-rowGiven row = every placeFine row && someButNotAll (length (entriesFrom 0 row)) && not (repeats (map precedenceOf (entriesFrom 0 row)))
+rowGiven row = every placeFine row && oneToFifteen (length (entriesFrom 0 row)) && not (repeats (map precedenceOf (entriesFrom 0 row)))
 
 unfoldable pub marksGiven : List Bool → Bool
-marksGiven marks = someButNotAll (length (marksFrom 0 marks))
+marksGiven marks = oneToFifteen (length (marksFrom 0 marks))
 
 abbrev pub givenBy : Answer → List Filter → List Bool → Bool
 givenBy (Filters operation) row marks = rowGiven row && every not marks

@@ -6,7 +6,7 @@ ghost use lib.ListN.{length, take, drop};
 ghost use Rattle.laws.specs.Octets.{beOf};
 ghost use Rattle.filter.specs.Build.{added};
 ghost use Rattle.element.specs.Contents.{lengthOf, known, addressOf, componentOf, contentsOf};
-ghost use Rattle.element.specs.Walk.{stepAt};
+ghost use Rattle.element.specs.inner.Walk.{stepAt};
 use crate::lengths::component_length;
 use crate::octets::number_at;
 use filter::Address;

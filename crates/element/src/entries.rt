@@ -9,7 +9,7 @@ ghost use Rattle.element.specs.Framing.{splitOf};
 ghost use Rattle.element.specs.Numbers.{handedNumber};
 ghost use Rattle.element.specs.Read.{readElement};
 ghost use Rattle.element.specs.Entries.{placedIdentifiers, nthOf, startOf, causeIn, placedAt, lookAt, afterAt, afterAll, begun, advancedOf, skippedOf};
-ghost use Rattle.element.specs.Walk.{whole, placedSplit, beginsAt};
+ghost use Rattle.element.specs.inner.Walk.{whole, placedSplit, beginsAt};
 use crate::answer::Answer;
 use crate::answer::Refusal;
 use crate::answer::number;

@@ -5,7 +5,7 @@ ghost use Prim.Native.Nat.{_+_, _*_, _^_, _≤_};
 ghost use lib.ListN.{length};
 ghost use lib.Seq.{sets};
 ghost use Rattle.element.specs.Write.{addressBytes, contentsOctets};
-ghost use Rattle.element.specs.Walk.{fieldOctets, remoteField, protocolField, portField, indexField, classField, labelField, fieldsOf, narrow};
+ghost use Rattle.element.specs.inner.Walk.{fieldOctets, remoteField, protocolField, portField, indexField, classField, labelField, fieldsOf, narrow};
 use crate::lengths::component_length;
 use crate::octets::store;
 use filter::Address;

@@ -2,7 +2,7 @@
 ghost use mathlib.Core.Path.{_≡_};
 ghost use lib.ListN.{length};
 ghost use Rattle.element.specs.Framing.{identifierIn, splitOf, parameters, restFits, framedSet, framedIdentifiers, framedBare, framedBy, framedOf};
-ghost use Rattle.element.specs.Walk.{partEnd, placeOf, frameOf};
+ghost use Rattle.element.specs.inner.Walk.{partEnd, placeOf, frameOf};
 use crate::answer::BareOperation;
 use crate::answer::SetOperation;
 use crate::head::ADD;

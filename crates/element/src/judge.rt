@@ -5,7 +5,8 @@ ghost use Prim.Native.Nat.{_+_, _≤_, _<_};
 ghost use lib.ListN.{length, getD};
 ghost use Rattle.element.specs.Framing.{splitOf};
 ghost use Rattle.element.specs.Read.{codedOf};
-ghost use Rattle.element.specs.Walk.{rawAt, whole, judgeStart, judgedWith, judgedRaw, judgedSplit, verdictOf};
+ghost use Rattle.element.specs.inner.Walk.{rawAt, whole, judgeStart, judgedWith, judgedRaw, judgedSplit, verdictOf};
+ghost use Rattle.filter.specs.Sizes.{placeCount};
 use crate::answer::Answer;
 use crate::answer::Cause;
 use crate::answer::Element;
@@ -44,7 +45,7 @@ fn judge_start() -> Judged
 }
 
 fn judge_filter(st: Judged, identifier: usize, f: Filter) -> Judged
-    requires { ⌜ identifier < 16 ⌝ }
+    requires { ⌜ identifier < placeCount ⌝ }
     ensures { λ r. ⌜ r ≡ judgedWith st identifier (Coded.Well f) ⌝ }
 {
     let mut next = st;
@@ -59,7 +60,7 @@ fn judge_filter(st: Judged, identifier: usize, f: Filter) -> Judged
 }
 
 fn judge_coded(st: Judged, identifier: usize, coded: Coded) -> Judged
-    requires { ⌜ identifier < 16 ⌝ }
+    requires { ⌜ identifier < placeCount ⌝ }
     ensures { λ r. ⌜ r ≡ judgedWith st identifier coded ⌝ }
 {
     match coded {

@@ -2,7 +2,8 @@
 ghost use mathlib.Core.Path.{_≡_};
 ghost use Prim.Native.Nat.{_<_};
 ghost use Rattle.element.specs.Write.{rowGiven};
-ghost use Rattle.element.specs.Walk.{surveyStart, surveyed};
+ghost use Rattle.element.specs.inner.Walk.{surveyStart, surveyed};
+ghost use Rattle.filter.specs.Sizes.{placeCount};
 use crate::octets::wide;
 use filter::Filter;
 use filter::coding::held;
@@ -30,7 +31,7 @@ fn survey_start() -> Survey
 }
 
 fn survey_place(st: Survey, f: Filter) -> Survey
-    requires { ⌜ st .count < 16 ⌝ }
+    requires { ⌜ st .count < placeCount ⌝ }
     ensures { λ r. ⌜ r ≡ surveyed st f ⌝ }
 {
     let mut next = st;

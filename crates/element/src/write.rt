@@ -10,7 +10,8 @@ ghost use Rattle.filter.specs.Coding.{emptyPlace, held};
 ghost use Rattle.filter.specs.Fittable.{placeFine};
 ghost use Rattle.element.specs.Numbers.{writtenNumber};
 ghost use Rattle.element.specs.Write.{setNumber, bareNumber, entriesFrom, entriesOctets, marksFrom, octetsOf, given, writeOf};
-ghost use Rattle.element.specs.Walk.{placeOctets, markOctets};
+ghost use Rattle.element.specs.inner.Walk.{placeOctets, markOctets};
+ghost use Rattle.filter.specs.Sizes.{placeCount};
 use crate::answer::Answer;
 use crate::answer::BareOperation;
 use crate::answer::Element;
@@ -98,7 +99,7 @@ fn one_if(b: bool) -> u8
 }
 
 fn count_filters(row: [Filter; PLACES]) -> u8
-    ensures { λ r. ⌜ (r ≡ length (entriesFrom 0 row)) × (r ≤ 16) ⌝ }
+    ensures { λ r. ⌜ (r ≡ length (entriesFrom 0 row)) × (r ≤ placeCount) ⌝ }
 {
     let mut n: u8 = 0;
     for i in 0..PLACES {
@@ -109,7 +110,7 @@ fn count_filters(row: [Filter; PLACES]) -> u8
 }
 
 fn count_marks(marks: [bool; PLACES]) -> u8
-    ensures { λ r. ⌜ (r ≡ length (marksFrom 0 marks)) × (r ≤ 16) ⌝ }
+    ensures { λ r. ⌜ (r ≡ length (marksFrom 0 marks)) × (r ≤ placeCount) ⌝ }
 {
     let mut n: u8 = 0;
     for i in 0..PLACES {
@@ -169,7 +170,7 @@ fn element_size(element: Element) -> usize
 
 // A place of a row into b from `at`; the place after it in b.
 fn put_place(b: &mut [u8], at: usize, identifier: u8, f: Filter) -> usize
-    requires { ⌜ (at + length (placeOctets identifier f) ≤ length (now b)) × (identifier < 16) × (held f ≡ true → f .direction ≤ 3) ⌝ }
+    requires { ⌜ (at + length (placeOctets identifier f) ≤ length (now b)) × (identifier < placeCount) × (held f ≡ true → f .direction ≤ 3) ⌝ }
     ensures { λ r. ⌜ (r ≡ at + length (placeOctets identifier f)) × (now (b .exit) ≡ sets (now (b .entry)) at (placeOctets identifier f)) ⌝ }
 {
     if !held(f) {
@@ -187,7 +188,7 @@ fn put_row(b: &mut [u8], at: usize, row: [Filter; PLACES])
 {
     let mut o = at;
     let mut i: u8 = 0;
-    while i < 16 {
+    while (i as usize) < PLACES {
         let f = row[i as usize];
         o = put_place(b, o, i, f);
         i += 1;
@@ -212,7 +213,7 @@ fn put_marks(b: &mut [u8], at: usize, marks: [bool; PLACES])
 {
     let mut o = at;
     let mut i: u8 = 0;
-    while i < 16 {
+    while (i as usize) < PLACES {
         o = put_mark(b, o, i, marks[i as usize]);
         i += 1;
     }

@@ -1,6 +1,5 @@
 -- What is in range by itself.
 -- Assumes nothing.
-use Prim.Native.Nat.{ℕ}
 use native.Mathlib.Omega.{arith}
 use Rattle.filter.specs.Build.{emptyFilter}
 use Rattle.filter.specs.Ranges.{FilterInRange}

@@ -21,7 +21,7 @@ use Rattle.filter.specs.Fit.{validHeader, agreesTransport, agreesNetwork, fits}
 use Rattle.filter.specs.Fittable.{sample, fittable}
 use Rattle.element.specs.Contents.{lengthOf, componentOf, contentsFrom, contentsOf}
 use Rattle.element.specs.Framing.{splitOf, parameters, restFits, framedBy, framedOf}
-use Rattle.element.specs.Read.{noFilters, noMarks, codedOf, entriesOf as elementEntries, twice, laid as laidRow, marked, readValue, readElement}
+use Rattle.element.specs.Read.{noFilters, noMarks, codedOf, entriesOf as elementEntries, twice, inPlaces, marked, readValue, readElement}
 use Rattle.table.specs.declared.bearer.Role.{Role}
 use Rattle.table.specs.declared.bearer.Role.the-variants.{Idle, Default, Dedicated}
 use Rattle.table.specs.declared.bearer.Table.{Table}
@@ -162,7 +162,7 @@ Sequence =
 
 -- ---- Both are computed, by opening the definitions that they are said in
 computed : Samples × Sequence
-unfolding allBelow anyBelow picks tab pad every isIn repeats sameUnder beFrom excluded added built held wellCoded emptyPlace validHeader agreesTransport agreesNetwork fits sample fittable lengthOf componentOf contentsFrom contentsOf splitOf parameters restFits framedBy framedOf noFilters noMarks codedOf elementEntries twice laidRow marked readValue readElement filterFine bearerFine transactionsApart transactionFrom distinctTransactions joined rowPrecedences connectionPrecedences distinctAt distinctPrecedences wellFormed opensAt isOpen closed ofConnection deletedIn holdsIn staysIn empties old takenBy takes conflict placed conflictIn loses placedIn losesAt conflictOnDefault follows released followers otherAt onlyConnection layWithin layOf headFine deleteFilters deletedTft modifyRead modifyNamed modifyOf run emptyTable activateDefaultOf activateRead activateNamed activateDedicatedOf lastBelow uplink placeHas bearerHas entryIn entryAt entriesOf filterOf entryFits firstFit uplinkAt hasUplink otherwiseOf routeOn routeOf
+unfolding allBelow anyBelow picks tab pad every isIn repeats sameUnder beFrom excluded added built held wellCoded emptyPlace validHeader agreesTransport agreesNetwork fits sample fittable lengthOf componentOf contentsFrom contentsOf splitOf parameters restFits framedBy framedOf noFilters noMarks codedOf elementEntries twice inPlaces marked readValue readElement filterFine bearerFine transactionsApart transactionFrom distinctTransactions joined rowPrecedences connectionPrecedences distinctAt distinctPrecedences wellFormed opensAt isOpen closed ofConnection deletedIn holdsIn staysIn empties old takenBy takes conflict placed conflictIn loses placedIn losesAt conflictOnDefault follows released followers otherAt onlyConnection layWithin layOf headFine deleteFilters deletedTft modifyRead modifyNamed modifyOf run emptyTable activateDefaultOf activateRead activateNamed activateDedicatedOf lastBelow uplink placeHas bearerHas entryIn entryAt entriesOf filterOf entryFits firstFit uplinkAt hasUplink otherwiseOf routeOn routeOf
 computed = (refl, refl)
 
 pub samples : Samples

@@ -4,7 +4,7 @@ use mathlib.Core.Path.{refl}
 use native.Mathlib.Omega.{arith}
 use borrow.Author.Needs.{needs}
 use borrow.Author.Tests.{le-leb, lt-leb}
-use Rattle.element.specs.Walk.{stepAt}
+use Rattle.element.specs.inner.Walk.{stepAt}
 use Rattle.element.proofs.contents.step_at.Statement.{statement}
 use Rattle.element.proofs.contents.step_at.Tie as tie
 

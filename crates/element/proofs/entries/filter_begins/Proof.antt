@@ -9,7 +9,7 @@ use native.Mathlib.Nat.{sub-zero}
 use lib.ListN.{length, drop, getD}
 use Rattle.element.specs.Framing.{splitOf}
 use Rattle.element.specs.Entries.{placedFilters}
-use Rattle.element.specs.Walk.{whole, placedSplit, beginsAt}
+use Rattle.element.specs.inner.Walk.{whole, placedSplit, beginsAt}
 use Rattle.element.proofs.Splitting.{turn-inside, turn-whole}
 use Rattle.element.proofs.Offsets.{turn-found, turn-passed}
 use borrow.Author.Needs.{needs}

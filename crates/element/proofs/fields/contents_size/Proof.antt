@@ -5,7 +5,7 @@ use Prim.Native.Nat.{_+_, _-_, _*_, _≤_, _<_}
 use native.Mathlib.Omega.{arith}
 use lib.ListN.{length, drop}
 use Rattle.filter.proofs.Typed.{filter-in-range}
-use Rattle.element.specs.Walk.{fieldsOctets}
+use Rattle.element.specs.inner.Walk.{fieldsOctets}
 use Rattle.element.proofs.Writing.{fields-end, size-next, contents-fields}
 use borrow.Author.Needs.{needs}
 use Rattle.element.proofs.fields.contents_size.Statement.{statement}

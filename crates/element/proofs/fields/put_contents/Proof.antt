@@ -8,7 +8,7 @@ use lib.Seq.{sets}
 use Rattle.filter.specs.Ranges.{FilterInRange}
 use Rattle.filter.proofs.Typed.{filter-in-range}
 use Rattle.element.specs.Write.{contentsOctets}
-use Rattle.element.specs.Walk.{fieldsOctets}
+use Rattle.element.specs.inner.Walk.{fieldsOctets}
 use Rattle.element.proofs.Writing.{fields-end, size-next, stores-next, contents-fields, narrow-at}
 use borrow.Author.Needs.{needs}
 use Rattle.element.proofs.fields.put_contents.Statement.{statement}

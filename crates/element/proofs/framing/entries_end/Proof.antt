@@ -7,7 +7,7 @@ use native.Mathlib.Omega.{arith}
 use lib.ListN.{length, drop}
 use borrow.Author.Needs.{needs}
 use Rattle.element.specs.Framing.{splitOf}
-use Rattle.element.specs.Walk.{placeOf}
+use Rattle.element.specs.inner.Walk.{placeOf}
 use Rattle.element.proofs.Ending.{inside, endFrom, entry-next, entries-done}
 use Rattle.element.proofs.framing.entries_end.Statement.{statement}
 use Rattle.element.proofs.framing.entries_end.Tie as tie

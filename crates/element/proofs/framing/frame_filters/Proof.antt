@@ -7,7 +7,7 @@ use borrow.Author.Tests.{eq-eqb, ne-eqb, not-true, not-false}
 use Rattle.laws.proofs.Parts.{part-rest}
 use Rattle.element.specs.declared.framing.Place.the-variants.{At}
 use Rattle.element.specs.Framing.{splitOf, restFits}
-use Rattle.element.specs.Walk.{placeOf}
+use Rattle.element.specs.inner.Walk.{placeOf}
 use Rattle.element.proofs.Frames.{set-cut, set-within, set-unfit, set-fit}
 use borrow.Author.Needs.{needs}
 use Rattle.element.proofs.framing.frame_filters.Statement.{statement}

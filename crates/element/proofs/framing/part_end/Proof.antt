@@ -5,7 +5,7 @@ use native.Mathlib.Omega.{arith}
 use lib.ListN.{length}
 use borrow.Author.Needs.{needs}
 use borrow.Author.Tests.{lt-ltb, le-ltb, le-leb, lt-leb}
-use Rattle.element.specs.Walk.{partEnd}
+use Rattle.element.specs.inner.Walk.{partEnd}
 use Rattle.element.proofs.framing.part_end.Statement.{statement}
 use Rattle.element.proofs.framing.part_end.Tie as tie
 

@@ -9,7 +9,7 @@ use native.Mathlib.Nat.{sub-zero}
 use lib.ListN.{length, drop, getD}
 use Rattle.laws.specs.Lists.{fold}
 use Rattle.element.specs.Framing.{splitOf}
-use Rattle.element.specs.Walk.{whole, judgeStart, judgedSplit}
+use Rattle.element.specs.inner.Walk.{whole, judgeStart, judgedSplit}
 use Rattle.element.proofs.Splitting.{turn-inside, turn-whole, turn-judged}
 use borrow.Author.Needs.{needs}
 use Rattle.element.proofs.judge.judge_all.Statement.{statement}

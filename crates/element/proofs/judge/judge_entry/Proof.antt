@@ -1,7 +1,7 @@
 -- `element::judge::judge_entry` meets its contract: the filter at its place is decoded and judged.
 -- Assumes nothing.
 use native.Mathlib.Omega.{arith}
-use Rattle.element.specs.Walk.{judgedRaw}
+use Rattle.element.specs.inner.Walk.{judgedRaw}
 use borrow.Author.Needs.{needs}
 use Rattle.element.proofs.judge.judge_entry.Statement.{statement}
 use Rattle.element.proofs.judge.judge_entry.Tie as tie

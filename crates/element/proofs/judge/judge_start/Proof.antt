@@ -2,7 +2,7 @@
 -- Assumes nothing.
 use borrow.Author.Needs.{needs}
 use Rattle.element.specs.Read.{noFilters, noMarks}
-use Rattle.element.specs.Walk.{noPrecedences}
+use Rattle.element.specs.inner.Walk.{noPrecedences}
 use Rattle.element.proofs.judge.judge_start.Statement.{statement}
 use Rattle.element.proofs.judge.judge_start.Tie as tie
 

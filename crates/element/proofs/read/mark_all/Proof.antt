@@ -8,13 +8,14 @@ use native.Mathlib.Numerals.{add-one}
 use native.Mathlib.Omega.{arith}
 use lib.ListN.{length, drop, getD, set, length-set, drop-of-length-le}
 use lib.Seq.{drop-cons}
+use Rattle.filter.specs.Sizes.{placeCount}
 use Rattle.element.specs.Read.{noMarks, marked}
 use borrow.Author.Needs.{needs}
 use Rattle.element.proofs.read.mark_all.Statement.{statement}
 use Rattle.element.proofs.read.mark_all.Tie as tie
 
 abbrev Inv-loop : tie.InvT-loop
-Inv-loop s marks₀ i₀ marks i = (i ≤ length s) × (length marks ≡ 16) × (marked (drop i s) marks ≡ marked s noMarks)
+Inv-loop s marks₀ i₀ marks i = (i ≤ length s) × (length marks ≡ placeCount) × (marked (drop i s) marks ≡ marked s noMarks)
 
 abbrev μ-loop : tie.MeasureT-loop
 μ-loop s marks₀ i₀ marks i = length s - i

@@ -8,7 +8,8 @@ use lib.ListN.{drop, getD}
 use Rattle.laws.specs.Lists.{fold}
 use Rattle.laws.proofs.Loops.{fold-more, fold-done}
 use Rattle.filter.specs.Build.{emptyFilter}
-use Rattle.element.specs.Walk.{surveyStart, surveyed}
+use Rattle.filter.specs.Sizes.{placeCount}
+use Rattle.element.specs.inner.Walk.{surveyStart, surveyed}
 use Rattle.element.proofs.Typed.{row-in-range}
 use Rattle.element.proofs.Surveys.{survey-more, survey-row}
 use borrow.Author.Needs.{needs}
@@ -16,10 +17,10 @@ use Rattle.element.proofs.survey.row_given.Statement.{statement}
 use Rattle.element.proofs.survey.row_given.Tie as tie
 
 abbrev Inv-loop : tie.InvT-loop
-Inv-loop row st₀ i₀ st i = (i ≤ 16) × (st .count ≤ i) × (fold surveyed st (drop i row) ≡ fold surveyed surveyStart row)
+Inv-loop row st₀ i₀ st i = (i ≤ placeCount) × (st .count ≤ i) × (fold surveyed st (drop i row) ≡ fold surveyed surveyStart row)
 
 abbrev μ-loop : tie.MeasureT-loop
-μ-loop row st₀ i₀ st i = 16 - i
+μ-loop row st₀ i₀ st i = placeCount - i
 
 loop-holds : tie.Need-loop-holds Inv-loop μ-loop
 loop-holds c = rw (c .survey-start .ensures) (omega arith, omega arith, refl)

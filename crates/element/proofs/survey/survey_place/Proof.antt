@@ -1,7 +1,7 @@
 -- `element::survey::survey_place` meets its contract: by whether the place holds a filter.
 -- Assumes nothing.
 use borrow.Author.Needs.{needs}
-use Rattle.element.specs.Walk.{surveyed}
+use Rattle.element.specs.inner.Walk.{surveyed}
 use Rattle.element.proofs.survey.survey_place.Statement.{statement}
 use Rattle.element.proofs.survey.survey_place.Tie as tie
 

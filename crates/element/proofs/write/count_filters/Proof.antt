@@ -9,6 +9,7 @@ use Rattle.laws.specs.Says.{pick}
 use Rattle.laws.proofs.Loops.{places-end, size-next}
 use Rattle.filter.specs.Coding.{held}
 use Rattle.filter.specs.Build.{emptyFilter}
+use Rattle.filter.specs.Sizes.{placeCount}
 use Rattle.element.specs.Write.{entriesFrom}
 use Rattle.element.proofs.Typed.{row-in-range}
 use Rattle.element.proofs.Rows.{entryAt, entries-by-places, one-long, one-small}
@@ -17,10 +18,10 @@ use Rattle.element.proofs.write.count_filters.Statement.{statement}
 use Rattle.element.proofs.write.count_filters.Tie as tie
 
 abbrev Inv-loop : tie.InvT-loop
-Inv-loop row n₀ i₀ n i = (i ≤ 16) × (n ≤ i) × (n + length (entriesFrom i (drop i row)) ≡ length (entriesFrom 0 row))
+Inv-loop row n₀ i₀ n i = (i ≤ placeCount) × (n ≤ i) × (n + length (entriesFrom i (drop i row)) ≡ length (entriesFrom 0 row))
 
 abbrev μ-loop : tie.MeasureT-loop
-μ-loop row n₀ i₀ n i = 16 - i
+μ-loop row n₀ i₀ n i = placeCount - i
 
 add-n : tie.Need-add-n Inv-loop μ-loop
 add-n c = omega (arith, one-small (c .before .held .result))

@@ -6,6 +6,7 @@ use Prim.Native.Nat.{_+_, _-_, _≤_}
 use native.Mathlib.Omega.{arith}
 use lib.ListN.{length, drop, getD}
 use Rattle.laws.proofs.Loops.{places-end, size-next}
+use Rattle.filter.specs.Sizes.{placeCount}
 use Rattle.element.specs.Write.{marksFrom}
 use Rattle.element.proofs.Typed.{marks-long}
 use Rattle.element.proofs.Rows.{marks-by-places, one-long, one-small}
@@ -14,10 +15,10 @@ use Rattle.element.proofs.write.count_marks.Statement.{statement}
 use Rattle.element.proofs.write.count_marks.Tie as tie
 
 abbrev Inv-loop : tie.InvT-loop
-Inv-loop marks n₀ i₀ n i = (i ≤ 16) × (n ≤ i) × (n + length (marksFrom i (drop i marks)) ≡ length (marksFrom 0 marks))
+Inv-loop marks n₀ i₀ n i = (i ≤ placeCount) × (n ≤ i) × (n + length (marksFrom i (drop i marks)) ≡ length (marksFrom 0 marks))
 
 abbrev μ-loop : tie.MeasureT-loop
-μ-loop marks n₀ i₀ n i = 16 - i
+μ-loop marks n₀ i₀ n i = placeCount - i
 
 add-n : tie.Need-add-n Inv-loop μ-loop
 add-n c = omega (arith, one-small (getD (c .before .before .before .args .t1) (c .before .before .loop .i) false))

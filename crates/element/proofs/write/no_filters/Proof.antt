@@ -10,16 +10,17 @@ use Rattle.laws.specs.Lists.{every}
 use Rattle.laws.proofs.Loops.{every-more, every-done}
 use Rattle.filter.specs.Coding.{emptyPlace}
 use Rattle.filter.specs.Build.{emptyFilter}
+use Rattle.filter.specs.Sizes.{placeCount}
 use Rattle.element.proofs.Typed.{row-in-range}
 use borrow.Author.Needs.{needs}
 use Rattle.element.proofs.write.no_filters.Statement.{statement}
 use Rattle.element.proofs.write.no_filters.Tie as tie
 
 abbrev Inv-loop : tie.InvT-loop
-Inv-loop row all₀ i₀ all i = (i ≤ 16) × (all && every emptyPlace (drop i row) ≡ every emptyPlace row)
+Inv-loop row all₀ i₀ all i = (i ≤ placeCount) × (all && every emptyPlace (drop i row) ≡ every emptyPlace row)
 
 abbrev μ-loop : tie.MeasureT-loop
-μ-loop row all₀ i₀ all i = 16 - i
+μ-loop row all₀ i₀ all i = placeCount - i
 
 loop-again : tie.Need-loop-again Inv-loop μ-loop
 loop-again c =

@@ -7,16 +7,17 @@ use native.Mathlib.Omega.{arith}
 use lib.ListN.{drop}
 use Rattle.laws.specs.Lists.{every}
 use Rattle.laws.proofs.Loops.{every-more, every-done}
+use Rattle.filter.specs.Sizes.{placeCount}
 use Rattle.element.proofs.Typed.{marks-long}
 use borrow.Author.Needs.{needs}
 use Rattle.element.proofs.write.no_marks.Statement.{statement}
 use Rattle.element.proofs.write.no_marks.Tie as tie
 
 abbrev Inv-loop : tie.InvT-loop
-Inv-loop marks all₀ i₀ all i = (i ≤ 16) × (all && every not (drop i marks) ≡ every not marks)
+Inv-loop marks all₀ i₀ all i = (i ≤ placeCount) × (all && every not (drop i marks) ≡ every not marks)
 
 abbrev μ-loop : tie.MeasureT-loop
-μ-loop marks all₀ i₀ all i = 16 - i
+μ-loop marks all₀ i₀ all i = placeCount - i
 
 loop-again : tie.Need-loop-again Inv-loop μ-loop
 loop-again c =

@@ -2,7 +2,7 @@
 -- Assumes nothing.
 use native.Mathlib.Omega.{arith}
 use Rattle.element.specs.Write.{entryOctets}
-use Rattle.element.specs.Walk.{placeOctets}
+use Rattle.element.specs.inner.Walk.{placeOctets}
 use borrow.Author.Needs.{needs}
 use Rattle.element.proofs.write.place_size.Statement.{statement}
 use Rattle.element.proofs.write.place_size.Tie as tie

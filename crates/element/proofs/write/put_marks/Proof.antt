@@ -6,6 +6,7 @@ use mathlib.Core.Bool.{false}
 use Prim.Native.Nat.{_-_, _≤_}
 use native.Mathlib.Omega.{arith}
 use Rattle.laws.proofs.Loops.{Stored, stored-room, stored-next, stored-done}
+use Rattle.filter.specs.Sizes.{placeCount}
 use Rattle.element.specs.Write.{marksFrom}
 use Rattle.element.proofs.Typed.{marks-long}
 use Rattle.element.proofs.Rows.{marks-by-places}
@@ -14,10 +15,10 @@ use Rattle.element.proofs.write.put_marks.Statement.{statement}
 use Rattle.element.proofs.write.put_marks.Tie as tie
 
 abbrev Inv-loop : tie.InvT-loop
-Inv-loop b₀ at marks o₀ i₀ b o i = (i ≤ 16) × Stored marksFrom marks b₀ at i b o
+Inv-loop b₀ at marks o₀ i₀ b o i = (i ≤ placeCount) × Stored marksFrom marks b₀ at i b o
 
 abbrev μ-loop : tie.MeasureT-loop
-μ-loop b₀ at marks o₀ i₀ b o i = 16 - i
+μ-loop b₀ at marks o₀ i₀ b o i = placeCount - i
 
 put-mark-requires : tie.Need-put-mark-requires Inv-loop μ-loop
 put-mark-requires c κs =
@@ -51,7 +52,7 @@ put-marks-spec =
     Inv-loop
     μ-loop
     (λ c. (omega arith, record { long = refl; size = refl; stores = refl }))
-    (λ c. search needs)
+    (λ c. search needs) (λ c. search needs)
     (λ c. search needs)
     put-mark-requires
     (λ c. search needs)

@@ -9,7 +9,7 @@ use lib.ListN.{length, length-set}
 use borrow.Author.Tests.{not-true, not-false}
 use Rattle.filter.specs.Coding.{held}
 use Rattle.element.specs.Write.{contentsOctets, entryOctets}
-use Rattle.element.specs.Walk.{placeOctets}
+use Rattle.element.specs.inner.Walk.{placeOctets}
 use borrow.Author.Needs.{needs}
 use Rattle.element.proofs.write.put_place.Statement.{statement}
 use Rattle.element.proofs.write.put_place.Tie as tie

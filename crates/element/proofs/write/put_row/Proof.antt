@@ -8,6 +8,7 @@ use lib.ListN.{getD}
 use Rattle.laws.proofs.Loops.{every-at, Stored, stored-room, stored-next, stored-done}
 use Rattle.filter.specs.Fittable.{placeFine}
 use Rattle.filter.specs.Build.{emptyFilter}
+use Rattle.filter.specs.Sizes.{placeCount}
 use Rattle.element.specs.Write.{entriesFrom, entriesOctets}
 use Rattle.element.proofs.Typed.{row-in-range}
 use Rattle.element.proofs.Rows.{octets-by-places, given-direction}
@@ -16,10 +17,10 @@ use Rattle.element.proofs.write.put_row.Statement.{statement}
 use Rattle.element.proofs.write.put_row.Tie as tie
 
 abbrev Inv-loop : tie.InvT-loop
-Inv-loop b₀ at row o₀ i₀ b o i = (i ≤ 16) × Stored (λ k fs. entriesOctets (entriesFrom k fs)) row b₀ at i b o
+Inv-loop b₀ at row o₀ i₀ b o i = (i ≤ placeCount) × Stored (λ k fs. entriesOctets (entriesFrom k fs)) row b₀ at i b o
 
 abbrev μ-loop : tie.MeasureT-loop
-μ-loop b₀ at row o₀ i₀ b o i = 16 - i
+μ-loop b₀ at row o₀ i₀ b o i = placeCount - i
 
 put-place-requires : tie.Need-put-place-requires Inv-loop μ-loop
 put-place-requires c κs =
@@ -56,7 +57,7 @@ put-row-spec =
     Inv-loop
     μ-loop
     (λ c. (omega arith, record { long = refl; size = refl; stores = refl }))
-    (λ c. search needs)
+    (λ c. search needs) (λ c. search needs)
     (λ c. search needs)
     (λ c. search needs)
     put-place-requires

@@ -6,6 +6,7 @@ use native.Mathlib.Omega.{arith}
 use lib.ListN.{length, drop, getD}
 use Rattle.laws.proofs.Loops.{places-end, size-next}
 use Rattle.filter.specs.Build.{emptyFilter}
+use Rattle.filter.specs.Sizes.{placeCount}
 use Rattle.element.specs.Write.{entriesFrom, entriesOctets}
 use Rattle.element.proofs.Typed.{row-in-range}
 use Rattle.element.proofs.Rows.{octets-by-places, place-long}
@@ -15,10 +16,10 @@ use Rattle.element.proofs.write.row_size.Tie as tie
 
 abbrev Inv-loop : tie.InvT-loop
 Inv-loop row n₀ i₀ n i =
-    (i ≤ 16) × (n ≤ 234 * i) × (n + length (entriesOctets (entriesFrom i (drop i row))) ≡ length (entriesOctets (entriesFrom 0 row)))
+    (i ≤ placeCount) × (n ≤ 234 * i) × (n + length (entriesOctets (entriesFrom i (drop i row))) ≡ length (entriesOctets (entriesFrom 0 row)))
 
 abbrev μ-loop : tie.MeasureT-loop
-μ-loop row n₀ i₀ n i = 16 - i
+μ-loop row n₀ i₀ n i = placeCount - i
 
 loop-again : tie.Need-loop-again Inv-loop μ-loop
 loop-again c =
