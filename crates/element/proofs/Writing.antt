@@ -1,16 +1,17 @@
 -- Laws of a filter's components as they are written: one after the other, and that together they are the filter's contents.
-use mathlib.Core.Path.{_≡_, refl, ap, _∙_}
+use mathlib.Core.Path.{_≡_, refl, ap}
 use mathlib.Core.Bool.{true}
-use mathlib.Core.List.{List, [], _∷_, _++_, append-nil}
-use Prim.Native.Nat.{ℕ, _+_, _≤_, _<_}
+use mathlib.Core.List.{List, _∷_, append-nil}
+use Prim.Native.Nat.{ℕ, _+_, _<_}
 use native.Mathlib.Numerals.{add-one}
 use native.Mathlib.Omega.{arith}
-use lib.ListN.{length, drop, getD, set, length-append, drop-of-length-le}
-use lib.Seq.{drop-cons, sets}
+use lib.ListN.{length, getD, set, length-append}
+use lib.Seq.{sets}
 use Rattle.laws.specs.Lists.{All}
 use Rattle.laws.specs.Octets.{beBytes}
+use Rattle.laws.proofs.Loops.{ByPlaces}
 use Rattle.laws.proofs.Octets.{be-join, length-be}
-use Rattle.laws.proofs.Parts.{sets-append, stores-join}
+use Rattle.laws.proofs.Parts.{stores-join}
 use Rattle.laws.proofs.Typed.{all-at}
 use Rattle.filter.specs.declared.component.Address.{Address}
 use Rattle.filter.specs.declared.component.RemoteAddress.{RemoteAddress}
@@ -34,23 +35,9 @@ use Rattle.element.specs.Write.{addressBytes, remoteOctets, protocolOcte
 use Rattle.element.specs.inner.Walk.{fieldOctets, narrow, remoteField, protocolField, portField, indexField, classField, labelField, fieldsOf, fieldsOctets}
 
 -- ---- one component after the other
-module _ (fs : List Field) (i : ℕ) where
-  pub fields-end : length fs ≤ i → fieldsOctets (drop i fs) ≡ []
-  unfolding fieldsOctets
-  fields-end h = rw (drop-of-length-le fs h)
-
-  fields-next : i < length fs → fieldsOctets (drop i fs) ≡ fieldOctets (getD fs i No) ++ fieldsOctets (drop (i + 1) fs)
-  unfolding fieldsOctets
-  fields-next h = rw (drop-cons fs i No h, add-one)
-
-  pub size-next : i < length fs
-      → length (fieldsOctets (drop i fs)) ≡ length (fieldOctets (getD fs i No)) + length (fieldsOctets (drop (i + 1) fs))
-  size-next h = ap length (fields-next h) ∙ simp length-append
-
-  pub stores-next : i < length fs → (b : List ℕ) (o : ℕ)
-      → sets b o (fieldsOctets (drop i fs))
-      ≡ sets (sets b o (fieldOctets (getD fs i No))) (o + length (fieldOctets (getD fs i No))) (fieldsOctets (drop (i + 1) fs))
-  stores-next h b o = rw (fields-next h, sets-append)
+pub fields-by-places : ByPlaces (λ i x. fieldOctets x) (λ i fs. fieldsOctets fs)
+unfolding fieldsOctets
+fields-by-places = record { none = λ i. refl; more = λ i x xs. refl }
 
 length-address : (a : Address) → length (addressBytes a) ≡ 16
 length-address a = simp (length-append, length-be)

@@ -4,9 +4,11 @@ use mathlib.Core.Path.{_≡_, ap, _∙_}
 use Prim.Native.Nat.{_+_, _-_, _*_, _≤_, _<_}
 use native.Mathlib.Omega.{arith}
 use lib.ListN.{length, drop}
+use Rattle.laws.proofs.Loops.{size-next, places-end}
 use Rattle.filter.proofs.Typed.{filter-in-range}
+use Rattle.element.specs.declared.fields.Field.the-variants.{No}
 use Rattle.element.specs.inner.Walk.{fieldsOctets}
-use Rattle.element.proofs.Writing.{fields-end, size-next, contents-fields}
+use Rattle.element.proofs.Writing.{fields-by-places, contents-fields}
 use borrow.Author.Needs.{needs}
 use Rattle.element.proofs.fields.contents_size.Statement.{statement}
 use Rattle.element.proofs.fields.contents_size.Tie as tie
@@ -22,13 +24,13 @@ loop-again c =
     let l = c .before .before .before .loop in
     let fs = c .before .before .before .before .fields in
     let h : l .i < length (fs .result) = omega (arith, ap length (fs .ensures)) in
-    omega (arith, size-next (fs .result) (l .i) h)
+    omega (arith, size-next fields-by-places No (fs .result) (l .i) h)
 
 returns : tie.Need-returns Inv-loop μ-loop
 returns c =
     let s = c .before .before .before in
     let fs = c .before .before .fields in
-    let none = fields-end (fs .result) (c .before .loop .i) (omega (arith, ap length (fs .ensures))) in
+    let none = places-end fields-by-places No (fs .result) (c .before .loop .i) (omega (arith, ap length (fs .ensures))) in
     let all = ap fieldsOctets (fs .ensures) ∙ contents-fields (s .args .f) (filter-in-range (s .args .f) _ (s .good .0)) in
     (omega (arith, ap length none, ap length all), omega arith)
 
