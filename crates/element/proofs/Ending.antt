@@ -105,7 +105,7 @@ few n (a ∷ p ∷ []) h = refl
 few n (a ∷ p ∷ l ∷ xs) h = absurd (not-suc-le-zero (le-of-suc-le-suc (le-of-suc-le-suc h)))
 
 -- what is left from a place, after the filter r
-abbrev pub splitFrom : ℕ → List ℕ → Raw → Place → Split
+abbrev splitFrom : ℕ → List ℕ → Raw → Place → Split
 splitFrom n s r Cut = cut
 splitFrom n s r (At next) = after r (splitOf n (drop next s))
 
@@ -122,7 +122,7 @@ one n a p l s from = rw (length-drop from s, drop-drop l from s) (by (leb l (len
     by true = refl
     by false = refl
 
-pub filter-next : (n : ℕ) (s : List ℕ) (at : ℕ) → splitOf (suc n) (drop at s) ≡ splitFrom n s (rawAt s at) (partEnd s at 2)
+filter-next : (n : ℕ) (s : List ℕ) (at : ℕ) → splitOf (suc n) (drop at s) ≡ splitFrom n s (rawAt s at) (partEnd s at 2)
 unfolding partEnd
 filter-next n s at = by (ltb (at + 2) (length s)) refl
   where

@@ -86,7 +86,7 @@ module _ (s : List ℕ) where
     unfolding later
     first = split-next n s at (inside .0) (inside .1)
 
-    pub later-whole : whole (splitOf n (drop (at + 3 + getD s (at + 2) 0) s)) ≡ true
+    later-whole : whole (splitOf n (drop (at + 3 + getD s (at + 2) 0) s)) ≡ true
     unfolding later
     later-whole = sym (ap whole first ∙ whole-after (rawAt s at) later) ∙ there
 
@@ -95,7 +95,7 @@ module _ (s : List ℕ) where
         let h = inside .1 in
         length-take-le (getD s (at + 2) 0) (drop (at + 3) s) (simp length-drop (omega arith))
 
-    pub first-placed : placedSplit at (splitOf (suc n) (drop at s)) ≡ filterAt s at ∷ placedSplit (at + 3 + getD s (at + 2) 0) (splitOf n (drop (at + 3 + getD s (at + 2) 0) s))
+    first-placed : placedSplit at (splitOf (suc n) (drop at s)) ≡ filterAt s at ∷ placedSplit (at + 3 + getD s (at + 2) 0) (splitOf n (drop (at + 3 + getD s (at + 2) 0) s))
     unfolding placedFilters later
     first-placed = ap (placedSplit at) first ∙ (go later later-whole ∙ rw long)
       where

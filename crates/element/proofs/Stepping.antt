@@ -24,7 +24,7 @@ use Rattle.element.specs.declared.entries.Handed.the-variants.{Filter, I
 use Rattle.element.specs.Numbers.{causeNumber, numberOf, handedNumber}
 use Rattle.element.specs.Framing.{Raw, identifierIn, identifierOf, Framed, notFramed, filters, identifiers, bare, framedOf}
 use Rattle.element.specs.Read.{noFilters, noMarks, refused, Entry, entryFittable, codedOf, Entries as DecodedEntries, badly, coded, withEntry, entriesOf, twice, inPlaces, filterSet, marked, judgedEntries, judgedFrame, readValue, readElement}
-use Rattle.element.specs.Entries.{Placed, codedFilter, placedFilter, placedFilters, placedIdentifiers, placedIn, placedOf, handedOut, nthBy, nthOf, startBy, startOf, placedAt, lookAt, afterAt, afterAll, IsEntry, Shows, StepsThrough, emptySets, setsOf, laidInto, HandsOutAll, HandsOutCause, Everywhere}
+use Rattle.element.specs.Entries.{Placed, codedFilter, placedFilter, placedFilters, placedIdentifiers, placedIn, placedOf, handedOut, nthBy, nthOf, startBy, startOf, causeIn, placedAt, lookAt, afterAt, afterAll, IsEntry, Shows, StepsThrough, emptySets, setsOf, laidInto, HandsOutAll, HandsOutCause, Everywhere}
 use Rattle.element.proofs.Offsets.{nothingAt, nothing-there, Chained, placed-chained, nothing-before}
 
 -- ---- Each entry is handed out at its offset, and the next one at the offset after it
@@ -66,10 +66,15 @@ module _ (s : List ℕ) where
   unfolding placedOf
   placed = record { begun = omega arith; chained = placed-chained (framedOf s); found = λ q h. refl }
 
+  at-first : Shows s 0 (causeIn (readElement s .answer)) 0
+  unfolding lookAt afterAt
+  at-first = (refl, ap (λ (p : Placed). p .after) (nothing-before (placedOf s) 1 0 (placed .chained) (omega arith)))
+
   pub everywhere : Everywhere s
   unfolding placedAt
   everywhere =
       record {
+        first = at-first;
         there = all-shown 1 (placedOf s) placed;
         elsewhere = λ at z h. shown at (nothingAt at) (let n : at ≡ 0 → ⊥ = z in omega (arith, n)) (nothing-there (placedOf s) at h);
       }
@@ -182,8 +187,10 @@ module _ (s : List ℕ) where
       record { entries = h .entries; steps = rw (no-cause (readElement s .answer) q .start) (steps-through s 1 (placedOf s) (placed s)); sets = rw e (h .sets) }
 
   pub hands-out-cause : (refusal : Refusal) → readElement s .answer ≡ refusedWith refusal → HandsOutCause s refusal
-  unfolding startOf lookAt afterAt
-  hands-out-cause refusal e = record { cause = rw e; again = rw e (ap (λ (p : Placed). p .after) (nothing-before (placedOf s) 1 0 (placed s .chained) (omega arith))) }
+  unfolding startOf
+  hands-out-cause refusal e =
+      let h = at-first s in
+      record { cause = rw e (h .0 ∙ rw e); again = rw e (h .1) }
 
 -- ---- Entry n is what n steps come to
 module _ (s : List ℕ) where

@@ -39,7 +39,7 @@ unfoldable pub placedFilters : ℕ → List Raw → List Placed
 placedFilters at [] = []
 placedFilters at (r ∷ rs) = placedFilter at r ∷ placedFilters (placedFilter at r .after) rs
 
--- "For 5 each is one octet, identifier in bits 4 to 1"
+-- "For 5 each is one octet"
 unfoldable pub placedIdentifiers : ℕ → List ℕ → List Placed
 placedIdentifiers at [] = []
 placedIdentifiers at (x ∷ xs) = record { at = at; after = at + 1; entry = Identifier (identifierIn x) } ∷ placedIdentifiers (at + 1) xs
@@ -157,7 +157,8 @@ pub record HandsOutCause (xs : List ℕ) (refusal : Refusal) : Type 0 where
   pub cause : lookAt xs (startOf xs) ≡ Refused refusal
   pub again : afterAt xs (startOf xs) ≡ startOf xs
 
--- of every value: each entry at its offset, and at an offset that is neither 0 nor an entry's the end
+-- of every value: at 0 the cause, if there is one; each entry at its offset; at an offset that is neither 0 nor an entry's the end
 pub record Everywhere (xs : List ℕ) : Type 0 where
+  pub first : Shows xs 0 (causeIn (readElement xs .answer)) 0
   pub there : All (λ p. Shows xs (p .at) (p .entry) (p .after)) (placedOf xs)
   pub elsewhere : (at : ℕ) → (at ≡ 0 → ⊥) → All (λ p. p .at ≡ at → ⊥) (placedOf xs) → Shows xs at End at

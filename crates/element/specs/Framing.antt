@@ -15,7 +15,7 @@ pub record Raw : Type 0 where
   pub precedence : ℕ
   pub contents : List ℕ
 
--- of that octet, and of each octet of a delete list
+-- of that octet, and of each octet of a delete list: "For 5 each is one octet, identifier in bits 4 to 1"
 abbrev pub identifierIn : ℕ → ℕ
 identifierIn octet = octet % 16
 
@@ -71,7 +71,7 @@ framedSplit operation e (split rs rest) = pick (restFits e rest) (filters operat
 abbrev pub framedSet : SetOperation → ℕ → ℕ → List ℕ → Framed
 framedSet operation e n xs = pick (eqb n 0) notFramed (framedSplit operation e (splitOf n xs))
 
--- "For 5 each is one octet, identifier in bits 4 to 1"
+-- "For 5 each is one octet"
 abbrev pub framedIdentifiers : ℕ → ℕ → List ℕ → Framed
 framedIdentifiers e n xs = pick (not (eqb n 0) && leb n (length xs) && restFits e (drop n xs)) (identifiers (take n xs)) notFramed
 

@@ -1,4 +1,4 @@
-// How a value's octets are framed: which list of entries they are, and that it ends where E says.
+// How a value's octets are framed: the list of entries that it has, and that what is left after it is what E says.
 ghost use mathlib.Core.Path.{_≡_};
 ghost use lib.ListN.{length};
 ghost use Rattle.element.specs.Framing.{identifierIn, splitOf, parameters, restFits, framedSet, framedIdentifiers, framedBare, framedBy, framedOf};
