@@ -21,7 +21,7 @@ use Rattle.element.specs.declared.contents.Coded.{Coded}
 use Rattle.element.specs.declared.contents.Coded.the-variants.{Badly, Well}
 use Rattle.element.specs.declared.entries.Handed.{Handed}
 use Rattle.element.specs.declared.entries.Handed.the-variants.{Filter, Identifier, Refused, End}
-use Rattle.element.specs.Numbers.{causeNumber, numberOf, handedNumber}
+use Rattle.element.specs.Numbers.{causeNumber, numberOf, verdictOn, handedNumber}
 use Rattle.element.specs.Framing.{Raw, identifierIn, identifierOf, Framed, notFramed, filters, identifiers, bare, framedOf}
 use Rattle.element.specs.Read.{noFilters, noMarks, refused, Entry, entryFittable, codedOf, Entries as DecodedEntries, badly, coded, withEntry, entriesOf, twice, inPlaces, filterSet, marked, judgedEntries, judgedFrame, readValue, readElement}
 use Rattle.element.specs.Entries.{Placed, codedFilter, placedFilter, placedFilters, placedIdentifiers, placedIn, placedOf, handedOut, nthBy, nthOf, startBy, startOf, causeIn, placedAt, lookAt, afterAt, afterAll, IsEntry, Shows, StepsThrough, emptySets, setsOf, laidInto, HandsOutAll, HandsOutCause, Everywhere}
@@ -66,7 +66,7 @@ module _ (s : List ℕ) where
   unfolding placedOf
   placed = record { begun = omega arith; chained = placed-chained (framedOf s); found = λ q h. refl }
 
-  at-first : Shows s 0 (causeIn (readElement s .answer)) 0
+  at-first : Shows s 0 (causeIn (verdictOn (readElement s .answer))) 0
   unfolding lookAt afterAt
   at-first = (refl, ap (λ (p : Placed). p .after) (nothing-before (placedOf s) 1 0 (placed .chained) (omega arith)))
 
@@ -155,8 +155,8 @@ frame-hands (bare operation) q = record { entries = tt; sets = refl }
 -- ---- The whole value
 -- an answer that is no cause
 record NoCause (a : Answer) : Type 0 where
-  start : startBy a ≡ 1
-  nth : (hs : List Handed) (n : ℕ) → nthBy a hs n ≡ getD hs n End
+  start : startBy (verdictOn a) ≡ 1
+  nth : (hs : List Handed) (n : ℕ) → nthBy (verdictOn a) hs n ≡ getD hs n End
 
 no-cause : (a : Answer) → numberOf a ≡ 0 → NoCause a
 no-cause (Filters operation) q = record { start = refl; nth = λ hs n. refl }
@@ -209,10 +209,10 @@ module _ (s : List ℕ) where
   unfolding nthOf
   nth-steps n = go (readElement s .answer) refl
     where
-      all : numberOf (readElement s .answer) ≡ 0 → lookAt s (afterAll s (startOf s) n) ≡ nthBy (readElement s .answer) (handedOut s) n
+      all : numberOf (readElement s .answer) ≡ 0 → lookAt s (afterAll s (startOf s) n) ≡ nthBy (verdictOn (readElement s .answer)) (handedOut s) n
       all q = steps-nth (handedOut s) (startOf s) n (hands-out-all s q .steps) ∙ sym (no-cause (readElement s .answer) q .nth (handedOut s) n)
 
-      go : (a : Answer) → readElement s .answer ≡ a → lookAt s (afterAll s (startOf s) n) ≡ nthBy (readElement s .answer) (handedOut s) n
+      go : (a : Answer) → readElement s .answer ≡ a → lookAt s (afterAll s (startOf s) n) ≡ nthBy (verdictOn (readElement s .answer)) (handedOut s) n
       go (Filters operation) e = all (rw e)
       go Identifiers e = all (rw e)
       go (Bare operation) e = all (rw e)
@@ -233,7 +233,7 @@ pub nth-number : (s : List ℕ) (n : ℕ) → handedNumber (nthOf s n) ≡ numbe
 unfolding nthOf
 nth-number s n = go (readElement s .answer) refl
   where
-    go : (a : Answer) → readElement s .answer ≡ a → handedNumber (nthBy (readElement s .answer) (handedOut s) n) ≡ numberOf (readElement s .answer)
+    go : (a : Answer) → readElement s .answer ≡ a → handedNumber (nthBy (verdictOn (readElement s .answer)) (handedOut s) n) ≡ numberOf (readElement s .answer)
     go (Filters operation) e = rw e (entry-number (handedOut s) (hands-out-all s (rw e) .entries) n)
     go Identifiers e = rw e (entry-number (handedOut s) (hands-out-all s (rw e) .entries) n)
     go (Bare operation) e = rw e (entry-number (handedOut s) (hands-out-all s (rw e) .entries) n)

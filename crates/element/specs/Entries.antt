@@ -10,14 +10,13 @@ use denote.Ref.{RefT, now}
 use Rattle.laws.specs.Says.{pick}
 use Rattle.laws.specs.Lists.{All, fold}
 use Rattle.filter.specs.declared.component.Filter.{Filter as PacketFilter}
-use Rattle.element.specs.declared.answer.Answer.{Answer}
-use Rattle.element.specs.declared.answer.Answer.the-variants.{Filters, Identifiers, Bare, Refused as refusedWith}
 use Rattle.element.specs.declared.answer.Refusal.{Refusal}
 use Rattle.element.specs.declared.answer.Element.{Element}
 use Rattle.element.specs.declared.contents.Coded.{Coded, the-variants.Badly, the-variants.Well}
 use Rattle.element.specs.declared.entries.Handed.{Handed}
 use Rattle.element.specs.declared.entries.Handed.the-variants.{Filter, Identifier, Refused, End}
 use Rattle.element.specs.declared.entries.Entries.{Entries}
+use Rattle.element.specs.Numbers.{Verdict, accepted, refusedFor, verdictOn}
 use Rattle.element.specs.Framing.{Raw, identifierIn, identifierOf, Framed, notFramed, filters, identifiers, bare, framedOf}
 use Rattle.element.specs.Read.{noFilters, noMarks, codedOf, readElement}
 
@@ -58,31 +57,25 @@ unfoldable pub handedOut : List ℕ → List Handed
 handedOut xs = map (λ p. p .entry) (placedOf xs)
 
 -- ---- "or at once the cause where the element reads as one": what entry n is, counted from 0; after the last, the end
-abbrev pub nthBy : Answer → List Handed → ℕ → Handed
-nthBy (Filters operation) hs n = getD hs n End
-nthBy Identifiers hs n = getD hs n End
-nthBy (Bare operation) hs n = getD hs n End
-nthBy (refusedWith refusal) hs n = Refused refusal
+abbrev pub nthBy : Verdict → List Handed → ℕ → Handed
+nthBy accepted hs n = getD hs n End
+nthBy (refusedFor refusal) hs n = Refused refusal
 
 unfoldable pub nthOf : List ℕ → ℕ → Handed
-nthOf xs n = nthBy (readElement xs .answer) (handedOut xs) n
+nthOf xs n = nthBy (verdictOn (readElement xs .answer)) (handedOut xs) n
 
 -- ---- The offset. At first: 0 where the element reads as a cause, else 1, where its entries begin
-abbrev pub startBy : Answer → ℕ
-startBy (Filters operation) = 1
-startBy Identifiers = 1
-startBy (Bare operation) = 1
-startBy (refusedWith refusal) = 0
+abbrev pub startBy : Verdict → ℕ
+startBy accepted = 1
+startBy (refusedFor refusal) = 0
 
 unfoldable pub startOf : List ℕ → ℕ
-startOf xs = startBy (readElement xs .answer)
+startOf xs = startBy (verdictOn (readElement xs .answer))
 
 -- ---- What is handed out at an offset: at 0 the cause, if there is one; at an entry's offset that entry; anywhere else the end
-abbrev pub causeIn : Answer → Handed
-causeIn (Filters operation) = End
-causeIn Identifiers = End
-causeIn (Bare operation) = End
-causeIn (refusedWith refusal) = Refused refusal
+abbrev pub causeIn : Verdict → Handed
+causeIn accepted = End
+causeIn (refusedFor refusal) = Refused refusal
 
 -- the entry that begins at an offset; where none does, the end, which stays there
 unfoldable pub placedAt : List Placed → ℕ → Placed
@@ -90,7 +83,7 @@ placedAt [] at = record { at = at; after = at; entry = End }
 placedAt (p ∷ ps) at = pick (eqb (p .at) at) p (placedAt ps at)
 
 unfoldable pub lookAt : List ℕ → ℕ → Handed
-lookAt xs at = pick (eqb at 0) (causeIn (readElement xs .answer)) (placedAt (placedOf xs) at .entry)
+lookAt xs at = pick (eqb at 0) (causeIn (verdictOn (readElement xs .answer))) (placedAt (placedOf xs) at .entry)
 
 -- the offset after it; the cause and the end stay where they are, and so come again and again
 unfoldable pub afterAt : List ℕ → ℕ → ℕ
@@ -159,6 +152,6 @@ pub record HandsOutCause (xs : List ℕ) (refusal : Refusal) : Type 0 where
 
 -- of every value: at 0 the cause, if there is one; each entry at its offset; at an offset that is neither 0 nor an entry's the end
 pub record Everywhere (xs : List ℕ) : Type 0 where
-  pub first : Shows xs 0 (causeIn (readElement xs .answer)) 0
+  pub first : Shows xs 0 (causeIn (verdictOn (readElement xs .answer))) 0
   pub there : All (λ p. Shows xs (p .at) (p .entry) (p .after)) (placedOf xs)
   pub elsewhere : (at : ℕ) → (at ≡ 0 → ⊥) → All (λ p. p .at ≡ at → ⊥) (placedOf xs) → Shows xs at End at

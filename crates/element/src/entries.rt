@@ -6,7 +6,7 @@ ghost use Prim.Native.Nat.{_+_, _≤_};
 ghost use lib.Dec.{leb};
 ghost use lib.ListN.{length, take, drop};
 ghost use Rattle.element.specs.Framing.{splitOf};
-ghost use Rattle.element.specs.Numbers.{handedNumber};
+ghost use Rattle.element.specs.Numbers.{verdictOn, handedNumber};
 ghost use Rattle.element.specs.Read.{readElement};
 ghost use Rattle.element.specs.Entries.{placedIdentifiers, nthOf, startOf, causeIn, placedAt, lookAt, afterAt, afterAll, begun, advancedOf, skippedOf};
 ghost use Rattle.element.specs.inner.Walk.{whole, placedSplit, beginsAt};
@@ -106,7 +106,7 @@ fn after_filter(value: &[u8], n: u8, at: usize) -> usize
 }
 
 fn cause_of(value: &[u8]) -> Handed
-    ensures { λ r. ⌜ r ≡ causeIn (readElement (now (value .entry)) .answer) ⌝ }
+    ensures { λ r. ⌜ r ≡ causeIn (verdictOn (readElement (now (value .entry)) .answer)) ⌝ }
 {
     let element = read(value);
     let answer = element.answer;
