@@ -2,7 +2,7 @@
 use mathlib.Core.Path.{_≡_, refl, ap}
 use mathlib.Core.Bool.{Bool, true, false, not, _&&_, _||_}
 use mathlib.Core.List.{List, [], _∷_}
-use Prim.Native.Nat.{ℕ, zero, suc, _+_, _*_, _/_, _%_, _^_, _≤_, _<_}
+use Prim.Native.Nat.{ℕ, zero, suc, _+_, _*_, _%_, _^_, _≤_, _<_}
 use native.Mathlib.Omega.{arith}
 use lib.Dec.{eqb, leb}
 use lib.ListN.{length, take, drop, length-take, length-drop}
@@ -28,6 +28,7 @@ use Rattle.filter.specs.Coding.{held, labelFits, wellCoded}
 use Rattle.filter.specs.Ranges.{AddressInRange, RemoteInRange, ProtocolInRange, PortInRange, IndexInRange, ClassInRange, LabelInRange, FilterInRange}
 use Rattle.filter.proofs.Theorems.{label-added}
 use Rattle.filter.specs.Sizes.{placeCount}
+use Rattle.element.specs.Head.{operationIn, extensionIn, countIn}
 use Rattle.element.specs.declared.answer.SetOperation.{SetOperation}
 use Rattle.element.specs.declared.answer.SetOperation.the-variants.{Create, Add, Replace}
 use Rattle.element.specs.declared.answer.BareOperation.{BareOperation}
@@ -316,7 +317,7 @@ module _ (e n : ℕ) (few : n ≤ 15) (xs : List ℕ) where
 pub framed-into : (xs : List ℕ) → All Octet xs → FramedInto (framedOf xs)
 unfolding framedOf
 framed-into [] h = tt
-framed-into (x ∷ xs) h = framed-by (x / 16 % 2) (x % 16) (omega arith) xs (x / 32) (h .1)
+framed-into (x ∷ xs) h = framed-by (extensionIn x) (countIn x) (omega arith) xs (operationIn x) (h .1)
 
 -- ---- The entries
 pub record EntryDecoded (e : Entry) : Type 0 where

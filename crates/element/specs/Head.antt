@@ -1,5 +1,5 @@
 -- Octet 1, and what can be said of a value by its length and octet 1 alone.
-use Prim.Native.Nat.{ℕ, _/_, _%_}
+use Prim.Native.Nat.{ℕ, _+_, _*_, _/_, _%_}
 use mathlib.Core.Bool.{Bool, _&&_}
 use mathlib.Core.List.{List}
 use lib.Dec.{leb}
@@ -18,6 +18,10 @@ extensionIn octet = octet / 16 % 2
 
 abbrev pub countIn : ℕ → ℕ
 countIn octet = octet % 16
+
+-- "The writer sets E to 0."
+abbrev pub firstOctet : ℕ → ℕ → ℕ
+firstOctet operation count = operation * 32 + count
 
 -- "Operations: 1 create, 2 delete TFT, 3 add, 4 replace, 5 delete filters, 6 no operation; 0 and 7 are refused (house)."
 abbrev pub create : ℕ

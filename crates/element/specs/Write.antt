@@ -36,7 +36,7 @@ use Rattle.element.specs.declared.write.Unwritten.{Unwritten}
 use Rattle.element.specs.declared.write.Unwritten.the-variants.{NotGiven, TooLong, NoRoom}
 use Rattle.element.specs.declared.write.Written.{Written}
 use Rattle.element.specs.declared.write.Written.the-variants.{Wrote, Refused as refusedTo}
-use Rattle.element.specs.Head.{longest, create, deleteTft, add, replace, deleteFilters, noOperation}
+use Rattle.element.specs.Head.{longest, firstOctet, create, deleteTft, add, replace, deleteFilters, noOperation}
 use Rattle.element.specs.Read.{Entry, precedenceOf}
 
 -- ---- The octets of each kind of component: its type, and its value, big-endian; none where it is absent
@@ -106,9 +106,9 @@ bareNumber DeleteTft = deleteTft
 bareNumber NoOperation = noOperation
 
 abbrev pub octetsBy : Answer → List Filter → List Bool → List ℕ
-octetsBy (Filters operation) row marks = (setNumber operation * 32 + length (entriesFrom 0 row)) ∷ entriesOctets (entriesFrom 0 row)
-octetsBy Identifiers row marks = (deleteFilters * 32 + length (marksFrom 0 marks)) ∷ marksFrom 0 marks
-octetsBy (Bare operation) row marks = (bareNumber operation * 32) ∷ []
+octetsBy (Filters operation) row marks = firstOctet (setNumber operation) (length (entriesFrom 0 row)) ∷ entriesOctets (entriesFrom 0 row)
+octetsBy Identifiers row marks = firstOctet deleteFilters (length (marksFrom 0 marks)) ∷ marksFrom 0 marks
+octetsBy (Bare operation) row marks = firstOctet (bareNumber operation) 0 ∷ []
 octetsBy (Refused refusal) row marks = []
 
 unfoldable pub octetsOf : Element → List ℕ

@@ -18,7 +18,12 @@ use crate::answer::Element;
 use crate::answer::SetOperation;
 use crate::fields::contents_size;
 use crate::fields::put_contents;
+use crate::head::ADD;
+use crate::head::CREATE;
+use crate::head::DELETE_TFT;
 use crate::head::LONGEST;
+use crate::head::NO_OPERATION;
+use crate::head::REPLACE;
 use crate::octets::wide;
 use crate::survey::row_given;
 use filter::Filter;
@@ -56,9 +61,9 @@ fn set_number(operation: SetOperation) -> u8
     ensures { λ r. ⌜ (r ≡ setNumber operation) × (r ≤ 4) ⌝ }
 {
     match operation {
-        SetOperation::Create => 1,
-        SetOperation::Add => 3,
-        SetOperation::Replace => 4,
+        SetOperation::Create => CREATE,
+        SetOperation::Add => ADD,
+        SetOperation::Replace => REPLACE,
     }
 }
 
@@ -66,8 +71,8 @@ fn bare_number(operation: BareOperation) -> u8
     ensures { λ r. ⌜ (r ≡ bareNumber operation) × (r ≤ 6) ⌝ }
 {
     match operation {
-        BareOperation::DeleteTft => 2,
-        BareOperation::NoOperation => 6,
+        BareOperation::DeleteTft => DELETE_TFT,
+        BareOperation::NoOperation => NO_OPERATION,
     }
 }
 

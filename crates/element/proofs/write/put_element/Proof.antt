@@ -3,6 +3,7 @@
 use mathlib.Core.Path.{_≡_, _∙_}
 use mathlib.Core.Bool.{Bool, true, _&&_}
 use mathlib.Core.List.{List}
+use native.Mathlib.Nat.{add-zero}
 use native.Mathlib.Omega.{arith}
 use lib.ListN.{length-set}
 use Rattle.laws.specs.Lists.{every}
@@ -56,5 +57,5 @@ put-element-spec =
     (λ c. c .before .before .put-marks .kept .0 ∙ simp length-set)
     (λ c. rw (c .before .before .before .before .before .enum-told .given .1, ← c .before .before .before .before .count-marks .ensures .0) (c .before .before .put-marks .ensures))
     (λ c. search needs)
-    (λ c. rw (c .before .before .answer2 .given .1, ← c .bare-number .ensures .0))
+    (λ c. rw (c .before .before .answer2 .given .1, ← c .bare-number .ensures .0, add-zero))
     (λ c. rw (c .enum-told2 .given .1)))
