@@ -25,7 +25,7 @@ use Rattle.calls.specs.Steps.{isOpen, closed, openedView, empties}
 use Rattle.calls.specs.Lay.{layOf}
 use Rattle.element.specs.Head.{create, deleteTft, operationOf, headFine}
 use Rattle.calls.specs.Modify.{mismatch, creates, deleteFilters, deletedTft, modifiedBy, modifyRead, modifyNamed, modifyOf}
-use Rattle.calls.specs.Others.{unused, activateDefaultOf, activatedBy, activateRead, activateNamed, activateDedicatedOf, deactivateOf, rejectOf, startOf}
+use Rattle.calls.specs.Others.{available, activateDefaultOf, activatedBy, activateRead, activateNamed, activateDedicatedOf, deactivateOf, rejectOf, startOf}
 use Rattle.calls.specs.Changes.{Gives}
 use Rattle.calls.proofs.Theorems.{laid-number}
 
@@ -73,7 +73,7 @@ module _ (t : Table) where
       let s = closed t x in
       picked (Gives causes) (wellFormed t) _ _
       (picked (Gives causes) (mismatch t x) _ _ refl
-      (picked (Gives causes) (unused s bearer && isDefault (roleOf s link)) _ _
+      (picked (Gives causes) (available s bearer && isDefault (roleOf s link)) _ _
       (picked (Gives causes) (headFine value) _ _
       (picked (Gives causes) (eqb (operationOf value) create) _ _ (activated-gives (verdictOn (readElement value .answer)) s bearer link (readElement value .filters)) refl) refl) refl)) refl
 
@@ -81,7 +81,7 @@ module _ (t : Table) where
   unfolding isIn activateDefaultOf
   activate-default-gives bearer =
       let ns : List ℕ = 0 ∷ 1 ∷ 43 ∷ [] in
-      picked (Gives ns) (wellFormed t) _ _ (picked (Gives ns) (unused t bearer) _ _ refl refl) refl
+      picked (Gives ns) (wellFormed t) _ _ (picked (Gives ns) (available t bearer) _ _ refl refl) refl
 
   pub deactivate-gives : (bearer x : ℕ) → Gives (0 ∷ 1 ∷ []) (deactivateOf t bearer x)
   unfolding isIn deactivateOf

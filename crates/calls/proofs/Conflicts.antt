@@ -2,8 +2,7 @@
 use mathlib.Core.Path.{_≡_, refl, sym, _∙_, ap}
 use mathlib.Core.Bool.{Bool, true, false, not, _&&_, _||_}
 use mathlib.Core.List.{List}
-use Prim.Native.Nat.{ℕ, zero, suc, _+_, _<_}
-use native.Mathlib.Nat.{not-suc-le-zero}
+use Prim.Native.Nat.{ℕ, suc, _+_, _<_}
 use native.Mathlib.Omega.{arith}
 use lib.Dec.{eqb}
 use lib.ListN.{length, getD, set, replicate, length-set, length-replicate, getD-replicate}
@@ -11,9 +10,8 @@ use lib.Seq.{getD-set-same, getD-set-other}
 use mathlib.Core.Logic.{⊎-elim}
 use Rattle.laws.specs.Says.{pick}
 use Rattle.laws.specs.Index.{anyBelow, picks, tab}
-use Rattle.laws.proofs.Index.{next, tab-at, tab-length, tab-is}
-use Rattle.laws.proofs.Says.{which, never, says-eq, says-ne, last}
-use Rattle.laws.proofs.Tests.{neither}
+use Rattle.laws.proofs.Index.{next, tab-at, tab-length, tab-is, any-none, any-same, any-no, picks-same}
+use Rattle.laws.proofs.Says.{which, never, says-eq, says-ne}
 use Rattle.filter.specs.declared.component.Filter.{Filter}
 use Rattle.filter.specs.Coding.{held}
 use Rattle.table.specs.declared.bearer.Role.{Role}
@@ -25,29 +23,6 @@ use Rattle.table.specs.Bearers.{bearerCount, inRow, roleAt, bearerAt, identityO
 use Rattle.calls.specs.inner.Walk.{so}
 use Rattle.calls.specs.Steps.{ofConnection}
 use Rattle.calls.specs.Lay.{old, takenBy, takes, conflict, placed, conflictIn, loses, placedIn, losesAt, conflictOnDefault, follows, released, followers}
-
--- ---- tests by index
-any-none : (p : ℕ → Bool) (n : ℕ) → ((i : ℕ) → p i ≡ false) → anyBelow p n ≡ false
-unfolding anyBelow
-any-none p zero h = refl
-any-none p (suc n) h = rw (any-none p n h) (h n)
-
-any-same : (p q : ℕ → Bool) (n : ℕ) → ((i : ℕ) → i < n → p i ≡ q i) → anyBelow p n ≡ anyBelow q n
-unfolding anyBelow
-any-same p q zero h = refl
-any-same p q (suc n) h = rw (any-same p q n (λ i l. h i (omega arith)), h n (omega arith))
-
-picks-same : (p q : ℕ → Bool) (g : ℕ → ℕ) (n : ℕ) → ((i : ℕ) → i < n → p i ≡ q i) → picks p g n ≡ picks q g n
-unfolding picks
-picks-same p q g zero h = refl
-picks-same p q g (suc n) h = rw (picks-same p q g n (λ i l. h i (omega arith)), h n (omega arith))
-
-any-no : (p : ℕ → Bool) (n i : ℕ) → i < n → anyBelow p n ≡ false → p i ≡ false
-unfolding anyBelow
-any-no p zero i l e = absurd (not-suc-le-zero l)
-any-no p (suc n) i l e =
-    let both = neither (anyBelow p n) (p n) e in
-    ⊎-elim (λ m. any-no p n i m (both .0)) (λ q. ap p q ∙ both .1) (last l)
 
 -- ---- the precedences of the new filters
 abbrev pub takenBelow : List Filter → ℕ → ℕ → Bool

@@ -30,7 +30,7 @@ use Rattle.calls.specs.Steps.{isOpen, closed, openedView, empties}
 use Rattle.calls.specs.Lay.{released, onlyConnection, layOrRelease, layWithin, layOf}
 use Rattle.element.specs.Head.{create, deleteTft, operationOf, headFine}
 use Rattle.calls.specs.Modify.{malformed, mismatch, creates, deleteFilters, deletedTft, modifiedBy, modifyRead, modifyNamed, modifyOf}
-use Rattle.calls.specs.Others.{unused, activateDefaultOf, activatedBy, activateRead, activateNamed, activateDedicatedOf, deactivateOf, rejectOf, startOf}
+use Rattle.calls.specs.Others.{available, activateDefaultOf, activatedBy, activateRead, activateNamed, activateDedicatedOf, deactivateOf, rejectOf, startOf}
 
 -- ---- a table that is not well formed: every call gives 1 and hands it back as it was
 module _ (t : Table) (e : wellFormed t ≡ false) where
@@ -124,7 +124,7 @@ activate-read-leaves t bearer link value =
 activate-named-leaves : (t : Table) (bearer link : ℕ) (value : List ℕ) → RefusalLeaves t (activateNamed t bearer link value)
 unfolding activateNamed
 activate-named-leaves t bearer link value =
-    picked (RefusalLeaves t) (unused t bearer && isDefault (roleOf t link)) _ _
+    picked (RefusalLeaves t) (available t bearer && isDefault (roleOf t link)) _ _
     (picked (RefusalLeaves t) (headFine value) _ _ (activate-read-leaves t bearer link value) (λ r. refl)) (λ r. refl)
 
 -- steps 1 and 2 of both: t before the transaction is closed, s after
@@ -152,7 +152,7 @@ module _ (t : Table) where
   pub activate-default-refused : (bearer : ℕ) → RefusalLeaves t (activateDefaultOf t bearer)
   unfolding activateDefaultOf
   activate-default-refused bearer =
-      picked (RefusalLeaves t) (wellFormed t) _ _ (picked (RefusalLeaves t) (unused t bearer) _ _ (λ r. absurd (r refl)) (λ r. refl)) (λ r. refl)
+      picked (RefusalLeaves t) (wellFormed t) _ _ (picked (RefusalLeaves t) (available t bearer) _ _ (λ r. absurd (r refl)) (λ r. refl)) (λ r. refl)
 
   pub deactivate-refused : (bearer x : ℕ) → RefusalLeaves t (deactivateOf t bearer x)
   unfolding deactivateOf

@@ -45,7 +45,7 @@ use Rattle.calls.specs.Steps.{opensAt, isOpen, ownerBelow, closedView, c
 use Rattle.calls.specs.Lay.{placedIn, laidView, released, layOrRelease, layWithin, layOf}
 use Rattle.element.specs.Head.{create, operationOf, headFine}
 use Rattle.calls.specs.Modify.{creates, mismatch, deleteFilters, deletedTft, modifiedBy, modifyRead, modifyNamed, modifyOf}
-use Rattle.calls.specs.Others.{unused, activateDefaultOf, activatedBy, activateRead, activateNamed, activateDedicatedOf, deactivateOf, afterReject, rejectOf, startOf}
+use Rattle.calls.specs.Others.{available, activateDefaultOf, activatedBy, activateRead, activateNamed, activateDedicatedOf, deactivateOf, afterReject, rejectOf, startOf}
 use Rattle.calls.specs.Changes.{Sound}
 use Rattle.calls.proofs.Views.{role-built}
 use Rattle.calls.proofs.Preserved.{well-built, closed-well, well-started, not-open, ActiveDefault, well-default, well-dedicated, dropped-well, well-deleted, WellSet, laid-cases, active-at, laid-well}
@@ -198,14 +198,14 @@ module _ (t : Table) (sound : Sound t) where
 abbrev LeavesSound : Outcome → Type 0
 LeavesSound o = Sound (o .table)
 
--- an unused identity is in range, and its bearer idle
-abbrev Unused : Table → ℕ → Type 0
-Unused t bearer = (firstIdentity ≤ bearer) × (bearer ≤ lastIdentity) × (roleAt t (indexOf bearer) ≡ Idle)
+-- an available identity is in range, and its bearer idle
+abbrev Available : Table → ℕ → Type 0
+Available t bearer = (firstIdentity ≤ bearer) × (bearer ≤ lastIdentity) × (roleAt t (indexOf bearer) ≡ Idle)
 
-unused-at : (t : Table) (bearer : ℕ) → unused t bearer ≡ true → Unused t bearer
-unused-at t bearer = go (isIdentity bearer) refl
+available-at : (t : Table) (bearer : ℕ) → available t bearer ≡ true → Available t bearer
+available-at t bearer = go (isIdentity bearer) refl
   where
-    go : (b : Bool) → isIdentity bearer ≡ b → b && isIdle (pick b (roleAt t (indexOf bearer)) Idle) ≡ true → Unused t bearer
+    go : (b : Bool) → isIdentity bearer ≡ b → b && isIdle (pick b (roleAt t (indexOf bearer)) Idle) ≡ true → Available t bearer
     go true e h = let r = range-says bearer .to e in (r .0, r .1, idle-says (roleAt t (indexOf bearer)) .to h)
     go false e h = never h refl
 
@@ -242,7 +242,7 @@ module _ (t : Table) (sound : Sound t) (value : List ℕ) (octets : All Octet va
       by-test LeavesSound (headFine value) _ _ (λ _.
       by-test LeavesSound (isDedicated (roleOf t bearer) && eqb (operationOf value) 2) _ _ (λ _. sound) (λ _. modified-sound bearer h (readElement value .answer) refl)) (λ _. sound))
 
-  module _ (bearer link : ℕ) (idle : Unused t bearer) (default : ActiveDefault t link) where
+  module _ (bearer link : ℕ) (idle : Available t bearer) (default : ActiveDefault t link) where
     linked-sound : Sound (build (linkedView t bearer link))
     linked-sound =
         sound-built (linkedView t bearer link) (opened-in-range t (sound .inRange) (indexOf bearer) (Dedicated link) (omega arith))
@@ -267,11 +267,11 @@ module _ (t : Table) (sound : Sound t) (value : List ℕ) (octets : All Octet va
   activate-named : (bearer link : ℕ) → Sound (activateNamed t bearer link value .table)
   unfolding activateNamed activateRead
   activate-named bearer link =
-      by-test LeavesSound (unused t bearer && isDefault (roleOf t link)) _ _ (λ h.
-      let f = both (unused t bearer) (isDefault (roleOf t link)) h in
+      by-test LeavesSound (available t bearer && isDefault (roleOf t link)) _ _ (λ h.
+      let f = both (available t bearer) (isDefault (roleOf t link)) h in
       by-test LeavesSound (headFine value) _ _ (λ _.
       by-test LeavesSound (eqb (operationOf value) create) _ _
-      (λ e. activated-sound bearer link (unused-at t bearer (f .0)) (default-at t link (f .1)) (eqb-true (operationOf value) create e)) (λ _. sound)) (λ _. sound)) (λ _. sound)
+      (λ e. activated-sound bearer link (available-at t bearer (f .0)) (default-at t link (f .1)) (eqb-true (operationOf value) create e)) (λ _. sound)) (λ _. sound)) (λ _. sound)
 
 -- a transaction that is not open, of an identity that may be
 unopened : (t : Table) (x : ℕ) → (x ≡ 0 → ⊥) → x ≤ lastTransaction → isOpen t x ≡ false → anyBelow (opensAt t x) bearerCount ≡ false
@@ -282,12 +282,12 @@ module _ (t : Table) (sound : Sound t) where
   pub activate-default-sound : (bearer : ℕ) → Sound (activateDefaultOf t bearer .table)
   unfolding activateDefaultOf
   activate-default-sound bearer =
-      by-test LeavesSound (wellFormed t) _ _ (λ _. by-test LeavesSound (unused t bearer) _ _ opened (λ _. sound)) (λ _. sound)
+      by-test LeavesSound (wellFormed t) _ _ (λ _. by-test LeavesSound (available t bearer) _ _ opened (λ _. sound)) (λ _. sound)
     where
-      opened : unused t bearer ≡ true → Sound (build (openedView t (indexOf bearer) Default))
+      opened : available t bearer ≡ true → Sound (build (openedView t (indexOf bearer) Default))
       opened e =
           sound-built (openedView t (indexOf bearer) Default) (opened-in-range t (sound .inRange) (indexOf bearer) Default tt)
-          (well-default t (sound .well) (indexOf bearer) (unused-at t bearer e .2))
+          (well-default t (sound .well) (indexOf bearer) (available-at t bearer e .2))
 
   pub activate-dedicated-sound : (bearer link x : ℕ) (value : List ℕ) → All Octet value → Sound (activateDedicatedOf t bearer link x value .table)
   unfolding activateDedicatedOf

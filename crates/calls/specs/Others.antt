@@ -22,16 +22,17 @@ use Rattle.calls.specs.Lay.{layOf}
 use Rattle.calls.specs.Modify.{malformed, mismatch}
 
 -- "Default activation: 1, then 43 for an identity outside 5 to 15 or in use (house); else accept, and the bearer is a default without TFT."
-abbrev pub unused : Table → ℕ → Bool
-unused t bearer = isIdentity bearer && isIdle (roleOf t bearer)
+abbrev pub available : Table → ℕ → Bool
+available t bearer = isIdentity bearer && isIdle (roleOf t bearer)
 
 unfoldable pub activateDefaultOf : Table → ℕ → Outcome
 activateDefaultOf t bearer =
     pick (wellFormed t)
-    (pick (unused t bearer) (answered (build (openedView t (indexOf bearer) Default)) (Accept bearer)) (rejectedWith t bearer BearerIdentity)) (malformed t)
+    (pick (available t bearer) (answered (build (openedView t (indexOf bearer) Default)) (Accept bearer)) (rejectedWith t bearer BearerIdentity)) (malformed t)
 
 -- "Dedicated activation: as above, but step 3 refuses an identity outside 5 to 15 or in use (house) or a link to no active default with 43, and
 -- step 5 refuses any operation but create with 41; a conflict on the default releases the connection, and the new bearer stays idle."
+-- after step 5 the value is a create, which reads as a create or as a cause (`create-reads`): the cause, or laying the filters
 abbrev pub activatedBy : Verdict → Table → ℕ → ℕ → List Filter → Outcome
 activatedBy (refusedFor refusal) t bearer link new = rejectedWith t bearer (causeOf (refusal .cause))
 activatedBy accepted t bearer link new = layOf (build (openedView t (indexOf bearer) (Dedicated link))) bearer new true
@@ -43,7 +44,7 @@ activateRead t bearer link value =
 
 unfoldable pub activateNamed : Table → ℕ → ℕ → List ℕ → Outcome
 activateNamed t bearer link value =
-    pick (unused t bearer && isDefault (roleOf t link))
+    pick (available t bearer && isDefault (roleOf t link))
     (pick (headFine value) (activateRead t bearer link value) (rejectedWith t bearer TftSyntax)) (rejectedWith t bearer BearerIdentity)
 
 unfoldable pub activateDedicatedOf : Table → ℕ → ℕ → ℕ → List ℕ → Outcome

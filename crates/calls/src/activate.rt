@@ -1,7 +1,7 @@
 // Default and dedicated activation.
 ghost use mathlib.Core.Path.{_≡_};
 ghost use Rattle.element.specs.Numbers.{verdictOn};
-ghost use Rattle.calls.specs.Others.{unused, activatedBy, activateRead, activateNamed, activateDefaultOf, activateDedicatedOf};
+ghost use Rattle.calls.specs.Others.{available, activatedBy, activateRead, activateNamed, activateDefaultOf, activateDedicatedOf};
 use crate::lay::lay;
 use crate::modify::malformed_table;
 use crate::modify::mismatches;
@@ -27,8 +27,8 @@ use table::bearer::is_idle;
 use table::bearer::role_of;
 use table::well_formed::well_formed;
 
-fn is_unused(t: Table, bearer: u8) -> bool
-    ensures { λ r. ⌜ r ≡ unused t bearer ⌝ }
+fn is_available(t: Table, bearer: u8) -> bool
+    ensures { λ r. ⌜ r ≡ available t bearer ⌝ }
 {
     is_identity(bearer) & is_idle(role_of(t, bearer))
 }
@@ -39,7 +39,7 @@ pub fn activate_default(t: Table, bearer: u8) -> Outcome
     if !well_formed(t) {
         return malformed_table(t);
     }
-    if !is_unused(t, bearer) {
+    if !is_available(t, bearer) {
         return reject_with(t, bearer, Cause::BearerIdentity);
     }
     answer_with(
@@ -78,7 +78,7 @@ fn activate_read(t: Table, bearer: u8, link: u8, value: &[u8]) -> Outcome
 fn activate_named(t: Table, bearer: u8, link: u8, value: &[u8]) -> Outcome
     ensures { λ r. ⌜ r ≡ activateNamed t bearer link (now (value .entry)) ⌝ }
 {
-    let allowed = is_unused(t, bearer) & is_default(role_of(t, link));
+    let allowed = is_available(t, bearer) & is_default(role_of(t, link));
     if !allowed {
         return reject_with(t, bearer, Cause::BearerIdentity);
     }

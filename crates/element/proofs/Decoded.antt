@@ -26,6 +26,7 @@ use Rattle.filter.specs.Component.{largestLabel}
 use Rattle.filter.specs.Build.{Component, ipv4Remote, ipv6Remote, protocol, localPort, localRange, remotePort, remoteRange, index, class, label, typeOf, bare, put, excluded, tooLarge, added}
 use Rattle.filter.specs.Coding.{held, labelFits, wellCoded}
 use Rattle.filter.specs.Ranges.{AddressInRange, RemoteInRange, ProtocolInRange, PortInRange, IndexInRange, ClassInRange, LabelInRange, FilterInRange}
+use Rattle.filter.proofs.Adding.{put-start}
 use Rattle.filter.proofs.Theorems.{label-added}
 use Rattle.filter.specs.Sizes.{placeCount}
 use Rattle.element.specs.Head.{operationIn, extensionIn, countIn}
@@ -134,18 +135,6 @@ pub record Sound (f : Filter) : Type 0 where
   pub direction : f .direction ≤ 3
   pub label : labelFits (f .label) ≡ true
 
-put-direction : (f : Filter) (c : Component) → put c f .direction ≡ f .direction
-put-direction f (ipv4Remote address mask) = refl
-put-direction f (ipv6Remote address mask) = refl
-put-direction f (protocol x) = refl
-put-direction f (localPort x) = refl
-put-direction f (localRange low high) = refl
-put-direction f (remotePort x) = refl
-put-direction f (remoteRange low high) = refl
-put-direction f (index x) = refl
-put-direction f (class x mask) = refl
-put-direction f (label x) = refl
-
 put-held : (f : Filter) (c : Component) → held (put c f) ≡ true
 unfolding held
 put-held f (ipv4Remote address mask) = refl
@@ -165,7 +154,7 @@ added-sound f c q s =
     let b = tooLarge c || excluded f (typeOf c) in
     record {
       inRange = picked FilterInRange b f (put c f) (s .inRange) (put-in-range f c (s .inRange) q);
-      direction = picked (λ g. g .direction ≤ 3) b f (put c f) (s .direction) (rw (put-direction f c) (s .direction));
+      direction = picked (λ g. g .direction ≤ 3) b f (put c f) (s .direction) (rw (put-start c f .direction) (s .direction));
       label = label-added f c (s .label);
     }
 

@@ -10,8 +10,9 @@ use Rattle.laws.specs.Lists.{All, every, fold}
 use Rattle.laws.proofs.Parts.{all-drop}
 use Rattle.laws.proofs.Marks.{again, again-repeats}
 use Rattle.filter.specs.declared.component.Filter.{Filter}
-use Rattle.filter.specs.Build.{Component, ipv4Remote, ipv6Remote, protocol, localPort, localRange, remotePort, remoteRange, index, class, label, put, tooLarge, typeOf, excluded, added, bare}
+use Rattle.filter.specs.Build.{excluded, added, bare}
 use Rattle.filter.specs.Sizes.{placeCount}
+use Rattle.filter.proofs.Adding.{SameStart, added-start}
 use Rattle.element.specs.declared.answer.SetOperation.{SetOperation}
 use Rattle.element.specs.declared.contents.Coded.{Coded}
 use Rattle.element.specs.declared.contents.Coded.the-variants.{Badly, Well}
@@ -19,36 +20,12 @@ use Rattle.element.specs.declared.judge.Judged.{Judged}
 use Rattle.element.specs.Read.{noFilters, noMarks, Entry, precedenceOf, entryFittable, codedOf, Entries, badly, coded, withEntry, entriesOf, twice, inPlaces, judgedEntries, judgedFrame}
 use Rattle.element.specs.Contents.{lengthOf, known, componentOf, contentsFrom, contentsOf}
 use Rattle.element.specs.Framing.{Raw, identifierOf, directionOf, splitOf, framedOf}
-use Rattle.element.specs.inner.Walk.{noPrecedences, judgeStart, judgedWith, judgedRaw, judgedSplit, verdictOf}
+use Rattle.element.specs.inner.Walk.{noPrecedences, judgeStart, judgedWith, judgedRaw, judgedSplit, concluded}
 use Rattle.element.specs.Meaning.{Octet}
 use Rattle.element.proofs.Splitting.{OctetPrecedence, narrow-precedences}
 use Rattle.element.proofs.Frames.{FiltersFramed}
 
 -- ---- decoding keeps the precedence and the direction of the filter that it starts from
-pub record SameStart (f g : Filter) : Type 0 where
-  pub precedence : g .precedence ≡ f .precedence
-  pub direction : g .direction ≡ f .direction
-
-put-keeps : (c : Component) (f : Filter) → SameStart f (put c f)
-put-keeps (ipv4Remote address mask) f = record { precedence = refl; direction = refl }
-put-keeps (ipv6Remote address mask) f = record { precedence = refl; direction = refl }
-put-keeps (protocol x) f = record { precedence = refl; direction = refl }
-put-keeps (localPort x) f = record { precedence = refl; direction = refl }
-put-keeps (localRange low high) f = record { precedence = refl; direction = refl }
-put-keeps (remotePort x) f = record { precedence = refl; direction = refl }
-put-keeps (remoteRange low high) f = record { precedence = refl; direction = refl }
-put-keeps (index x) f = record { precedence = refl; direction = refl }
-put-keeps (class x mask) f = record { precedence = refl; direction = refl }
-put-keeps (label x) f = record { precedence = refl; direction = refl }
-
-added-keeps : (f : Filter) (c : Component) → SameStart f (added f c)
-unfolding added
-added-keeps f c = go (tooLarge c || excluded f (typeOf c))
-  where
-    go : (b : Bool) → SameStart f (pick b f (put c f))
-    go true = record { precedence = refl; direction = refl }
-    go false = put-keeps c f
-
 keeps-both : (f g h : Filter) → SameStart f g → SameStart g h → SameStart f h
 keeps-both f g h a b = record { precedence = b .precedence ∙ a .precedence; direction = b .direction ∙ a .direction }
 
@@ -72,7 +49,7 @@ from-keeps zero f (t ∷ xs) =
     g = added f (componentOf t (take (lengthOf t) xs))
 
     go : (b : Bool) → StartKept g (contentsFrom (lengthOf t) g xs) → StartKept f (pick b (contentsFrom (lengthOf t) g xs) Badly)
-    go true h = kept-both f g (contentsFrom (lengthOf t) g xs) (added-keeps f (componentOf t (take (lengthOf t) xs))) h
+    go true h = kept-both f g (contentsFrom (lengthOf t) g xs) (added-start f (componentOf t (take (lengthOf t) xs))) h
     go false h = tt
 from-keeps (suc k) f (x ∷ xs) = from-keeps k f xs
 
@@ -181,10 +158,10 @@ pick-not true x y = refl
 pick-not false x y = refl
 
 verdict-at : (operation : SetOperation) (r : Judged) (es : List Entry) → r .badly ≡ false → r .row ≡ inPlaces es noFilters → r .unfit ≡ not (every entryFittable es)
-    → r .repeated ≡ twice es → verdictOf operation r ≡ judgedEntries operation (coded es)
+    → r .repeated ≡ twice es → concluded operation r ≡ judgedEntries operation (coded es)
 verdict-at operation r es hb hr hu ht = rw (hb, hu, ht, hr) (pick-not (every entryFittable es) _ _)
 
-judged-verdict : (operation : SetOperation) (r : Judged) (es : Entries) → Follows judgeStart r es → verdictOf operation r ≡ judgedEntries operation es
+judged-verdict : (operation : SetOperation) (r : Judged) (es : Entries) → Follows judgeStart r es → concluded operation r ≡ judgedEntries operation es
 judged-verdict operation r badly h = rw h
 judged-verdict operation r (coded es) h =
     rw (h .0)
@@ -192,11 +169,11 @@ judged-verdict operation r (coded es) h =
     (judged-badly judgeStart es) (judged-row judgeStart es) (judged-unfit judgeStart es) (start-repeated es (h .1)))
 
 verdict-entries : (operation : SetOperation) (rs : List Raw) → All OctetPrecedence rs
-    → verdictOf operation (fold judgedRaw judgeStart rs) ≡ judgedEntries operation (entriesOf rs)
+    → concluded operation (fold judgedRaw judgeStart rs) ≡ judgedEntries operation (entriesOf rs)
 verdict-entries operation rs h = judged-verdict operation (fold judgedRaw judgeStart rs) (entriesOf rs) (follows judgeStart rs h)
 
 -- ---- the filters of a framed value
 module _ (s : List ℕ) (operation : SetOperation) (n : ℕ) (f : FiltersFramed s operation n) where
-  pub filters-judged : All Octet s → verdictOf operation (judgedSplit judgeStart (splitOf n (drop 1 s))) ≡ judgedFrame (framedOf s)
+  pub filters-judged : All Octet s → concluded operation (judgedSplit judgeStart (splitOf n (drop 1 s))) ≡ judgedFrame (framedOf s)
   filters-judged h =
       rw (f .there, f .framed) (verdict-entries operation (f .raws) (narrow-precedences n (drop 1 s) (f .raws) (f .rest) (all-drop Octet 1 s h) (f .there)))

@@ -24,59 +24,59 @@ use Rattle.element.specs.declared.entries.Handed.the-variants.{Filter, I
 use Rattle.element.specs.Numbers.{causeNumber, numberOf, verdictOn, handedNumber}
 use Rattle.element.specs.Framing.{Raw, identifierIn, identifierOf, Framed, notFramed, filters, identifiers, bare, framedOf}
 use Rattle.element.specs.Read.{noFilters, noMarks, refused, Entry, entryFittable, codedOf, Entries as DecodedEntries, badly, coded, withEntry, entriesOf, twice, inPlaces, filterSet, marked, judgedEntries, judgedFrame, readValue, readElement}
-use Rattle.element.specs.Entries.{Placed, codedFilter, placedFilter, placedFilters, placedIdentifiers, placedIn, placedOf, handedOut, nthBy, nthOf, startBy, startOf, causeIn, placedAt, lookAt, afterAt, afterAll, IsEntry, Shows, StepsThrough, emptySets, setsOf, laidInto, HandsOutAll, HandsOutCause, Everywhere}
+use Rattle.element.specs.Entries.{Located, codedFilter, locatedFilter, locatedFilters, locatedIdentifiers, locatedIn, locatedOf, handedOut, nthBy, nthOf, startBy, startOf, causeIn, locatedAt, lookAt, afterAt, afterAll, IsEntry, Shows, StepsThrough, emptySets, setsOf, laidInto, HandsOutAll, HandsOutCause, Everywhere}
 use Rattle.element.proofs.Offsets.{nothingAt, nothing-there, Chained, placed-chained, nothing-before}
 
 -- ---- Each entry is handed out at its offset, and the next one at the offset after it
 module _ (s : List ℕ) where
   -- the entries ps, the last ones of the value, of which the first begins at an offset
-  record Last (at : ℕ) (ps : List Placed) : Type 0 where
+  record Last (at : ℕ) (ps : List Located) : Type 0 where
     begun : 1 ≤ at
     chained : Chained at ps
-    found : (q : ℕ) → at ≤ q → placedAt (placedOf s) q ≡ placedAt ps q
+    found : (q : ℕ) → at ≤ q → locatedAt (locatedOf s) q ≡ locatedAt ps q
 
-  shown : (at : ℕ) (p : Placed) → 1 ≤ at → placedAt (placedOf s) at ≡ p → Shows s at (p .entry) (p .after)
+  shown : (at : ℕ) (p : Located) → 1 ≤ at → locatedAt (locatedOf s) at ≡ p → Shows s at (p .entry) (p .after)
   unfolding lookAt afterAt
-  shown at p b e = (rw (ne-eqb at 0 (λ z. omega arith), e), ap (λ (x : Placed). x .after) e)
+  shown at p b e = (rw (ne-eqb at 0 (λ z. omega arith), e), ap (λ (x : Located). x .after) e)
 
-  first-shown : (at : ℕ) (p : Placed) (ps : List Placed) → Last at (p ∷ ps) → Shows s at (p .entry) (p .after)
-  unfolding placedAt
+  first-shown : (at : ℕ) (p : Located) (ps : List Located) → Last at (p ∷ ps) → Shows s at (p .entry) (p .after)
+  unfolding locatedAt
   first-shown at p ps l = shown at p (l .begun) (l .found at (omega arith) ∙ rw (eq-eqb (p .at) at (l .chained .0)))
 
-  later : (at : ℕ) (p : Placed) (ps : List Placed) → Last at (p ∷ ps) → Last (p .after) ps
-  unfolding placedAt
+  later : (at : ℕ) (p : Located) (ps : List Located) → Last at (p ∷ ps) → Last (p .after) ps
+  unfolding locatedAt
   later at p ps l =
       let b = l .begun in
       let e = l .chained .0 in
       let m = l .chained .1 in
       record { begun = omega arith; chained = l .chained .2; found = λ q h. l .found q (omega arith) ∙ rw (ne-eqb (p .at) q (λ z. omega arith)) }
 
-  all-shown : (at : ℕ) (ps : List Placed) → Last at ps → All (λ p. Shows s (p .at) (p .entry) (p .after)) ps
+  all-shown : (at : ℕ) (ps : List Located) → Last at ps → All (λ p. Shows s (p .at) (p .entry) (p .after)) ps
   all-shown at [] l = tt
   all-shown at (p ∷ ps) l = (rw (l .chained .0) (first-shown at p ps l), all-shown (p .after) ps (later at p ps l))
 
-  steps-through : (at : ℕ) (ps : List Placed) → Last at ps → StepsThrough s at (map (λ p. p .entry) ps)
-  unfolding placedAt
+  steps-through : (at : ℕ) (ps : List Located) → Last at ps → StepsThrough s at (map (λ p. p .entry) ps)
+  unfolding locatedAt
   steps-through at [] l = shown at (nothingAt at) (l .begun) (l .found at (omega arith))
   steps-through at (p ∷ ps) l =
       let h = first-shown at p ps l in
       (h .0, rw (h .1) (steps-through (p .after) ps (later at p ps l)))
 
-  placed : Last 1 (placedOf s)
-  unfolding placedOf
+  placed : Last 1 (locatedOf s)
+  unfolding locatedOf
   placed = record { begun = omega arith; chained = placed-chained (framedOf s); found = λ q h. refl }
 
   at-first : Shows s 0 (causeIn (verdictOn (readElement s .answer))) 0
   unfolding lookAt afterAt
-  at-first = (refl, ap (λ (p : Placed). p .after) (nothing-before (placedOf s) 1 0 (placed .chained) (omega arith)))
+  at-first = (refl, ap (λ (p : Located). p .after) (nothing-before (locatedOf s) 1 0 (placed .chained) (omega arith)))
 
   pub everywhere : Everywhere s
-  unfolding placedAt
+  unfolding locatedAt
   everywhere =
       record {
         first = at-first;
-        there = all-shown 1 (placedOf s) placed;
-        elsewhere = λ at z h. shown at (nothingAt at) (let n : at ≡ 0 → ⊥ = z in omega (arith, n)) (nothing-there (placedOf s) at h);
+        there = all-shown 1 (locatedOf s) placed;
+        elsewhere = λ at z h. shown at (nothingAt at) (let n : at ≡ 0 → ⊥ = z in omega (arith, n)) (nothing-there (locatedOf s) at h);
       }
 
 -- ---- Laid into sets
@@ -88,21 +88,21 @@ abbrev HandedAs : List Handed → DecodedEntries → Type 0
 HandedAs hs badly = Unit {0}
 HandedAs hs (coded es) = hs ≡ handed es
 
-filters-handed : (at : ℕ) (rs : List Raw) → HandedAs (map (λ p. p .entry) (placedFilters at rs)) (entriesOf rs)
-unfolding placedFilters entriesOf
+filters-handed : (at : ℕ) (rs : List Raw) → HandedAs (map (λ p. p .entry) (locatedFilters at rs)) (entriesOf rs)
+unfolding locatedFilters entriesOf
 filters-handed at [] = refl
-filters-handed at (r ∷ rs) = go (codedOf r) (entriesOf rs) (filters-handed (placedFilter at r .after) rs)
+filters-handed at (r ∷ rs) = go (codedOf r) (entriesOf rs) (filters-handed (locatedFilter at r .after) rs)
   where
     hs : List Handed
-    hs = map (λ p. p .entry) (placedFilters (placedFilter at r .after) rs)
+    hs = map (λ p. p .entry) (locatedFilters (locatedFilter at r .after) rs)
 
     go : (c : Coded) (es : DecodedEntries) → HandedAs hs es → HandedAs (codedFilter (identifierOf r) c ∷ hs) (withEntry (identifierOf r) c es)
     go Badly es h = tt
     go (Well f) badly h = tt
     go (Well f) (coded es) h = ap (λ (x : List Handed). Filter (identifierOf r) f ∷ x) h
 
-identifiers-handed : (at : ℕ) (xs : List ℕ) → map (λ p. p .entry) (placedIdentifiers at xs) ≡ map (λ x. Identifier (identifierIn x)) xs
-unfolding placedIdentifiers
+identifiers-handed : (at : ℕ) (xs : List ℕ) → map (λ p. p .entry) (locatedIdentifiers at xs) ≡ map (λ x. Identifier (identifierIn x)) xs
+unfolding locatedIdentifiers
 identifiers-handed at [] = refl
 identifiers-handed at (x ∷ xs) = ap (λ (hs : List Handed). Identifier (identifierIn x) ∷ hs) (identifiers-handed (at + 1) xs)
 
@@ -145,7 +145,7 @@ module _ (operation : SetOperation) (rs : List Raw) where
       go true false q = filters-lay es noFilters noMarks
       go false c q = absurd (let z : _≡_ {A = ℕ} 44 0 = q in omega arith)
 
-frame-hands : (F : Framed) → numberOf (judgedFrame F .answer) ≡ 0 → HandsFrame F (map (λ p. p .entry) (placedIn F))
+frame-hands : (F : Framed) → numberOf (judgedFrame F .answer) ≡ 0 → HandsFrame F (map (λ p. p .entry) (locatedIn F))
 unfolding fold
 frame-hands notFramed q = absurd (let z : _≡_ {A = ℕ} 42 0 = q in omega arith)
 frame-hands (filters operation rs) q = entries-hand operation rs _ (entriesOf rs) refl (filters-handed 1 rs) q
@@ -180,11 +180,11 @@ module _ (s : List ℕ) where
       go false q = absurd (let z : _≡_ {A = ℕ} 42 0 = q in omega arith)
 
   pub hands-out-all : numberOf (readElement s .answer) ≡ 0 → HandsOutAll s
-  unfolding startOf placedOf handedOut
+  unfolding startOf locatedOf handedOut
   hands-out-all q =
       let e = judged q in
       let h = frame-hands (framedOf s) (rw e at q) in
-      record { entries = h .entries; steps = rw (no-cause (readElement s .answer) q .start) (steps-through s 1 (placedOf s) (placed s)); sets = rw e (h .sets) }
+      record { entries = h .entries; steps = rw (no-cause (readElement s .answer) q .start) (steps-through s 1 (locatedOf s) (placed s)); sets = rw e (h .sets) }
 
   pub hands-out-cause : (refusal : Refusal) → readElement s .answer ≡ refusedWith refusal → HandsOutCause s refusal
   unfolding startOf

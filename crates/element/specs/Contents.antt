@@ -15,13 +15,13 @@ use Rattle.filter.specs.Build.{excluded, added}
 use Rattle.element.specs.declared.contents.Coded.{Coded, the-variants.Badly, the-variants.Well}
 
 -- ---- "Component types and value lengths": a type, how many octets its value has, and what component they say
-pub record Listed : Type 0 where
+pub record TypeRow : Type 0 where
   pub type : ℕ
   pub octets : ℕ
   pub meaning : List ℕ → Component
 
-abbrev pub listed : ℕ → ℕ → (List ℕ → Component) → Listed
-listed type octets meaning = record { type = type; octets = octets; meaning = meaning }
+abbrev pub typeRow : ℕ → ℕ → (List ℕ → Component) → TypeRow
+typeRow type octets meaning = record { type = type; octets = octets; meaning = meaning }
 
 -- "Numbers are big-endian."
 abbrev pub number : (ℕ → Component) → List ℕ → Component
@@ -34,36 +34,36 @@ numbers w make xs = make (beOf (take w xs)) (beOf (drop w xs))
 abbrev pub addressOf : List ℕ → Address
 addressOf xs = record { high = beOf (take 8 xs); low = beOf (drop 8 xs) }
 
-abbrev pub listedTypes : List Listed
-listedTypes =
-    listed ipv4RemoteType 8 (numbers 4 ipv4Remote)
-    ∷ listed ipv6RemoteType 32 (λ xs. ipv6Remote (addressOf (take 16 xs)) (addressOf (drop 16 xs)))
-    ∷ listed protocolType 1 (number protocol)
-    ∷ listed localPortType 2 (number localPort)
-    ∷ listed localRangeType 4 (numbers 2 localRange)
-    ∷ listed remotePortType 2 (number remotePort)
-    ∷ listed remoteRangeType 4 (numbers 2 remoteRange)
-    ∷ listed indexType 4 (number index)
-    ∷ listed classType 2 (numbers 1 class)
+abbrev pub typeTable : List TypeRow
+typeTable =
+    typeRow ipv4RemoteType 8 (numbers 4 ipv4Remote)
+    ∷ typeRow ipv6RemoteType 32 (λ xs. ipv6Remote (addressOf (take 16 xs)) (addressOf (drop 16 xs)))
+    ∷ typeRow protocolType 1 (number protocol)
+    ∷ typeRow localPortType 2 (number localPort)
+    ∷ typeRow localRangeType 4 (numbers 2 localRange)
+    ∷ typeRow remotePortType 2 (number remotePort)
+    ∷ typeRow remoteRangeType 4 (numbers 2 remoteRange)
+    ∷ typeRow indexType 4 (number index)
+    ∷ typeRow classType 2 (numbers 1 class)
     -- "flow label, low 20 bits"
-    ∷ listed labelType 3 (λ xs. label (beOf xs % 2 ^ 20))
+    ∷ typeRow labelType 3 (λ xs. label (beOf xs % 2 ^ 20))
     ∷ []
 
 -- a column of the table at type t; `unknown` where the type is not listed
-abbrev pub lookUp : {A : Type 0} → (Listed → A) → A → ℕ → List Listed → A
+abbrev pub lookUp : {A : Type 0} → (TypeRow → A) → A → ℕ → List TypeRow → A
 lookUp column unknown t [] = unknown
 lookUp column unknown t (l ∷ ls) = pick (eqb t (l .type)) (column l) (lookUp column unknown t ls)
 
 -- "The length for each of the 256 type octets is one table, 0 where the type is unknown."
 unfoldable pub lengthOf : ℕ → ℕ
-lengthOf t = lookUp (λ l. l .octets) 0 t listedTypes
+lengthOf t = lookUp (λ l. l .octets) 0 t typeTable
 
 abbrev pub known : ℕ → Bool
 known t = leb 1 (lengthOf t)
 
 -- the component of type t whose value is xs; an unknown type is never asked for
 unfoldable pub componentOf : ℕ → List ℕ → Component
-componentOf t xs = lookUp (λ l. l .meaning xs) (protocol 0) t listedTypes
+componentOf t xs = lookUp (λ l. l .meaning xs) (protocol 0) t typeTable
 
 -- ---- "A badly coded filter (unknown or repeated type, component past its contents, empty contents, forbidden pair)"
 -- what the octets say after the filter f so far, of whose last component k octets are still to pass

@@ -21,7 +21,7 @@ use Rattle.element.specs.Framing.{Raw, identifierIn, identifierOf, Frame
 use Rattle.element.specs.Read.{noFilters, noMarks, codedOf, readElement}
 
 -- ---- "entries in byte order, repeats included": an entry, the offset of its first octet and the offset after it
-pub record Placed : Type 0 where
+pub record Located : Type 0 where
   pub at : ℕ
   pub after : ℕ
   pub entry : Handed
@@ -31,30 +31,30 @@ abbrev pub codedFilter : ℕ → Coded → Handed
 codedFilter identifier Badly = End
 codedFilter identifier (Well f) = Filter identifier f
 
-abbrev pub placedFilter : ℕ → Raw → Placed
-placedFilter at r = record { at = at; after = at + 3 + length (r .contents); entry = codedFilter (identifierOf r) (codedOf r) }
+abbrev pub locatedFilter : ℕ → Raw → Located
+locatedFilter at r = record { at = at; after = at + 3 + length (r .contents); entry = codedFilter (identifierOf r) (codedOf r) }
 
-unfoldable pub placedFilters : ℕ → List Raw → List Placed
-placedFilters at [] = []
-placedFilters at (r ∷ rs) = placedFilter at r ∷ placedFilters (placedFilter at r .after) rs
+unfoldable pub locatedFilters : ℕ → List Raw → List Located
+locatedFilters at [] = []
+locatedFilters at (r ∷ rs) = locatedFilter at r ∷ locatedFilters (locatedFilter at r .after) rs
 
 -- "For 5 each is one octet"
-unfoldable pub placedIdentifiers : ℕ → List ℕ → List Placed
-placedIdentifiers at [] = []
-placedIdentifiers at (x ∷ xs) = record { at = at; after = at + 1; entry = Identifier (identifierIn x) } ∷ placedIdentifiers (at + 1) xs
+unfoldable pub locatedIdentifiers : ℕ → List ℕ → List Located
+locatedIdentifiers at [] = []
+locatedIdentifiers at (x ∷ xs) = record { at = at; after = at + 1; entry = Identifier (identifierIn x) } ∷ locatedIdentifiers (at + 1) xs
 
 -- octet 1 has offset 0, and the entries begin after it
-abbrev pub placedIn : Framed → List Placed
-placedIn notFramed = []
-placedIn (filters operation rs) = placedFilters 1 rs
-placedIn (identifiers xs) = placedIdentifiers 1 xs
-placedIn (bare operation) = []
+abbrev pub locatedIn : Framed → List Located
+locatedIn notFramed = []
+locatedIn (filters operation rs) = locatedFilters 1 rs
+locatedIn (identifiers xs) = locatedIdentifiers 1 xs
+locatedIn (bare operation) = []
 
-unfoldable pub placedOf : List ℕ → List Placed
-placedOf xs = placedIn (framedOf xs)
+unfoldable pub locatedOf : List ℕ → List Located
+locatedOf xs = locatedIn (framedOf xs)
 
 unfoldable pub handedOut : List ℕ → List Handed
-handedOut xs = map (λ p. p .entry) (placedOf xs)
+handedOut xs = map (λ p. p .entry) (locatedOf xs)
 
 -- ---- "or at once the cause where the element reads as one": what entry n is, counted from 0; after the last, the end
 abbrev pub nthBy : Verdict → List Handed → ℕ → Handed
@@ -78,16 +78,16 @@ causeIn accepted = End
 causeIn (refusedFor refusal) = Refused refusal
 
 -- the entry that begins at an offset; where none does, the end, which stays there
-unfoldable pub placedAt : List Placed → ℕ → Placed
-placedAt [] at = record { at = at; after = at; entry = End }
-placedAt (p ∷ ps) at = pick (eqb (p .at) at) p (placedAt ps at)
+unfoldable pub locatedAt : List Located → ℕ → Located
+locatedAt [] at = record { at = at; after = at; entry = End }
+locatedAt (p ∷ ps) at = pick (eqb (p .at) at) p (locatedAt ps at)
 
 unfoldable pub lookAt : List ℕ → ℕ → Handed
-lookAt xs at = pick (eqb at 0) (causeIn (verdictOn (readElement xs .answer))) (placedAt (placedOf xs) at .entry)
+lookAt xs at = pick (eqb at 0) (causeIn (verdictOn (readElement xs .answer))) (locatedAt (locatedOf xs) at .entry)
 
 -- the offset after it; the cause and the end stay where they are, and so come again and again
 unfoldable pub afterAt : List ℕ → ℕ → ℕ
-afterAt xs at = placedAt (placedOf xs) at .after
+afterAt xs at = locatedAt (locatedOf xs) at .after
 
 unfoldable pub afterAll : List ℕ → ℕ → ℕ → ℕ
 afterAll xs at zero = at
@@ -153,5 +153,5 @@ pub record HandsOutCause (xs : List ℕ) (refusal : Refusal) : Type 0 where
 -- of every value: at 0 the cause, if there is one; each entry at its offset; at an offset that is neither 0 nor an entry's the end
 pub record Everywhere (xs : List ℕ) : Type 0 where
   pub first : Shows xs 0 (causeIn (verdictOn (readElement xs .answer))) 0
-  pub there : All (λ p. Shows xs (p .at) (p .entry) (p .after)) (placedOf xs)
-  pub elsewhere : (at : ℕ) → (at ≡ 0 → ⊥) → All (λ p. p .at ≡ at → ⊥) (placedOf xs) → Shows xs at End at
+  pub there : All (λ p. Shows xs (p .at) (p .entry) (p .after)) (locatedOf xs)
+  pub elsewhere : (at : ℕ) → (at ≡ 0 → ⊥) → All (λ p. p .at ≡ at → ⊥) (locatedOf xs) → Shows xs at End at

@@ -8,8 +8,8 @@ ghost use lib.ListN.{length, take, drop};
 ghost use Rattle.element.specs.Framing.{splitOf};
 ghost use Rattle.element.specs.Numbers.{verdictOn, handedNumber};
 ghost use Rattle.element.specs.Read.{readElement};
-ghost use Rattle.element.specs.Entries.{placedIdentifiers, nthOf, startOf, causeIn, placedAt, lookAt, afterAt, afterAll, begun, advancedOf, skippedOf};
-ghost use Rattle.element.specs.inner.Walk.{whole, placedSplit, beginsAt};
+ghost use Rattle.element.specs.Entries.{locatedIdentifiers, nthOf, startOf, causeIn, locatedAt, lookAt, afterAt, afterAll, begun, advancedOf, skippedOf};
+ghost use Rattle.element.specs.inner.Walk.{whole, locatedSplit, beginsAt};
 use crate::answer::Answer;
 use crate::answer::Refusal;
 use crate::answer::number;
@@ -50,7 +50,7 @@ pub struct Entries<'a> {
 // Whether one of the n filters begins at `at`; only their length octets are looked at.
 fn filter_begins(value: &[u8], n: u8, at: usize) -> bool
     requires { ⌜ whole (splitOf n (drop 1 (now value))) ≡ true ⌝ }
-    ensures { λ r. ⌜ r ≡ beginsAt (placedSplit 1 (splitOf n (drop 1 (now (value .entry))))) at ⌝ }
+    ensures { λ r. ⌜ r ≡ beginsAt (locatedSplit 1 (splitOf n (drop 1 (now (value .entry))))) at ⌝ }
 {
     let mut first = 1;
     let mut passed: u8 = 0;
@@ -73,7 +73,7 @@ fn identifier_begins(n: u8, at: usize) -> bool
 
 fn filter_at(value: &[u8], n: u8, at: usize) -> Handed
     requires { ⌜ whole (splitOf n (drop 1 (now value))) ≡ true ⌝ }
-    ensures { λ r. ⌜ r ≡ placedAt (placedSplit 1 (splitOf n (drop 1 (now (value .entry))))) at .entry ⌝ }
+    ensures { λ r. ⌜ r ≡ locatedAt (locatedSplit 1 (splitOf n (drop 1 (now (value .entry))))) at .entry ⌝ }
 {
     if !filter_begins(value, n, at) {
         return Handed::End;
@@ -87,7 +87,7 @@ fn filter_at(value: &[u8], n: u8, at: usize) -> Handed
 
 fn identifier_at(value: &[u8], n: u8, at: usize) -> Handed
     requires { ⌜ 1 + n ≤ length (now value) ⌝ }
-    ensures { λ r. ⌜ r ≡ placedAt (placedIdentifiers 1 (take n (drop 1 (now (value .entry))))) at .entry ⌝ }
+    ensures { λ r. ⌜ r ≡ locatedAt (locatedIdentifiers 1 (take n (drop 1 (now (value .entry))))) at .entry ⌝ }
 {
     if !identifier_begins(n, at) {
         return Handed::End;
@@ -97,7 +97,7 @@ fn identifier_at(value: &[u8], n: u8, at: usize) -> Handed
 
 fn after_filter(value: &[u8], n: u8, at: usize) -> usize
     requires { ⌜ whole (splitOf n (drop 1 (now value))) ≡ true ⌝ }
-    ensures { λ r. ⌜ r ≡ placedAt (placedSplit 1 (splitOf n (drop 1 (now (value .entry))))) at .after ⌝ }
+    ensures { λ r. ⌜ r ≡ locatedAt (locatedSplit 1 (splitOf n (drop 1 (now (value .entry))))) at .after ⌝ }
 {
     if !filter_begins(value, n, at) {
         return at;

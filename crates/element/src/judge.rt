@@ -5,7 +5,7 @@ ghost use Prim.Native.Nat.{_+_, _≤_, _<_};
 ghost use lib.ListN.{length, getD};
 ghost use Rattle.element.specs.Framing.{splitOf};
 ghost use Rattle.element.specs.Read.{codedOf};
-ghost use Rattle.element.specs.inner.Walk.{rawAt, whole, judgeStart, judgedWith, judgedRaw, judgedSplit, verdictOf};
+ghost use Rattle.element.specs.inner.Walk.{rawAt, whole, judgeStart, judgedWith, judgedRaw, judgedSplit, concluded};
 ghost use Rattle.filter.specs.Sizes.{placeCount};
 use crate::answer::Answer;
 use crate::answer::Cause;
@@ -103,8 +103,8 @@ pub(crate) fn judge_all(s: &[u8], n: u8) -> Judged
     st
 }
 
-pub(crate) fn verdict(operation: SetOperation, st: Judged) -> Element
-    ensures { λ r. ⌜ r ≡ verdictOf operation st ⌝ }
+pub(crate) fn conclude(operation: SetOperation, st: Judged) -> Element
+    ensures { λ r. ⌜ r ≡ concluded operation st ⌝ }
 {
     if st.badly {
         return refuse(Cause::Coding);

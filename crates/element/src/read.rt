@@ -12,8 +12,8 @@ use crate::framing::Frame;
 use crate::framing::frame_of;
 use crate::framing::identifier_in;
 use crate::head::LONGEST;
+use crate::judge::conclude;
 use crate::judge::judge_all;
-use crate::judge::verdict;
 use crate::octets::wide;
 use filter::Filter;
 use filter::component::PLACES;
@@ -51,7 +51,7 @@ pub fn read(value: &[u8]) -> Element
     let frame = frame_of(value);
     match frame {
         Frame::NotFramed => refuse(Cause::Operation),
-        Frame::Filters(operation, n) => verdict(operation, judge_all(&value[1..], n)),
+        Frame::Filters(operation, n) => conclude(operation, judge_all(&value[1..], n)),
         Frame::Identifiers(n) => {
             let end = 1 + wide(n);
             identifier_set(&value[1..end])

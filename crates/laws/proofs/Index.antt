@@ -13,6 +13,7 @@ use lib.ListN.{length, getD, set, length-set, length-append, List·getD-append}
 use lib.Seq.{set-getD, getD-set-same, getD-set-other, ext-getD, getD-append-seam}
 use Rattle.laws.specs.Says.{pick}
 use Rattle.laws.specs.Index.{allBelow, anyBelow, SomeBelow, picks, walk, tab, pad}
+use Rattle.laws.proofs.Tests.{neither}
 use Rattle.laws.proofs.Says.{last, never, says-eq, says-ne}
 
 -- ---- loops: g i is the state before turn i
@@ -39,6 +40,23 @@ module _ (p : ℕ → Bool) where
   pub any-start : false ≡ anyBelow p 0
   unfolding anyBelow
   any-start = refl
+
+  pub any-none : (n : ℕ) → ((i : ℕ) → p i ≡ false) → anyBelow p n ≡ false
+  unfolding anyBelow
+  any-none zero h = refl
+  any-none (suc n) h = rw (any-none n h) (h n)
+
+  pub any-no : (n i : ℕ) → i < n → anyBelow p n ≡ false → p i ≡ false
+  unfolding anyBelow
+  any-no zero i l e = absurd (not-suc-le-zero l)
+  any-no (suc n) i l e =
+      let both = neither (anyBelow p n) (p n) e in
+      ⊎-elim (λ m. any-no n i m (both .0)) (λ q. ap p q ∙ both .1) (last l)
+
+  pub any-same : (q : ℕ → Bool) (n : ℕ) → ((i : ℕ) → i < n → p i ≡ q i) → anyBelow p n ≡ anyBelow q n
+  unfolding anyBelow
+  any-same q zero h = refl
+  any-same q (suc n) h = rw (any-same q n (λ i l. h i (omega arith)), h n (omega arith))
 
   pub any-more : (i : ℕ) (b r : Bool) → r ≡ b || p i → b ≡ anyBelow p i → r ≡ anyBelow p (i + 1)
   unfolding anyBelow
@@ -215,6 +233,11 @@ module _ (p : ℕ → Bool) (g : ℕ → ℕ) where
       go : length (picks p g n) ≤ n → (b : Bool) → length (picks p g n ++ pick b (g n ∷ []) []) ≤ suc n
       go ih true = omega (arith, more (picks p g n) (g n))
       go ih false = omega (arith, ap length (append-nil (picks p g n)))
+
+pub picks-same : (p q : ℕ → Bool) (g : ℕ → ℕ) (n : ℕ) → ((i : ℕ) → i < n → p i ≡ q i) → picks p g n ≡ picks q g n
+unfolding picks
+picks-same p q g zero h = refl
+picks-same p q g (suc n) h = rw (picks-same p q g n (λ i l. h i (omega arith)), h n (omega arith))
 
 -- ---- a list in an array, zero beyond its end
 pub pad-push : (n : ℕ) (xs : List ℕ) (v : ℕ) → set (pad n xs) (length xs) v ≡ pad n (xs ++ v ∷ [])

@@ -46,7 +46,7 @@ use Rattle.element.specs.declared.fields.Field.the-variants.{No, Narrow,
 use Rattle.element.specs.Read.{noFilters, noMarks, refused, codedOf}
 use Rattle.element.specs.Contents.{lengthOf, known, componentOf}
 use Rattle.element.specs.Framing.{Raw, identifierOf, Split, cut, split, Framed, notFramed, filters, identifiers, bare}
-use Rattle.element.specs.Entries.{Placed, placedFilters}
+use Rattle.element.specs.Entries.{Located, locatedFilters}
 use Rattle.element.specs.Write.{addressBytes, entryOctets}
 
 -- ---- the table of lengths: each of its 256 entries is its type's length, the longest that of an IPv6 address and its mask
@@ -85,12 +85,12 @@ whole cut = false
 whole (split rs rest) = true
 
 -- ---- the entries at their offsets
-abbrev pub placedSplit : ℕ → Split → List Placed
-placedSplit at cut = []
-placedSplit at (split rs rest) = placedFilters at rs
+abbrev pub locatedSplit : ℕ → Split → List Located
+locatedSplit at cut = []
+locatedSplit at (split rs rest) = locatedFilters at rs
 
 -- whether an entry begins at an offset
-unfoldable pub beginsAt : List Placed → ℕ → Bool
+unfoldable pub beginsAt : List Located → ℕ → Bool
 beginsAt [] at = false
 beginsAt (p ∷ ps) at = eqb (p .at) at || beginsAt ps at
 
@@ -131,8 +131,8 @@ abbrev pub judgedSplit : Judged → Split → Judged
 judgedSplit st cut = st
 judgedSplit st (split rs rest) = fold judgedRaw st rs
 
-abbrev pub verdictOf : SetOperation → Judged → Element
-verdictOf operation st =
+abbrev pub concluded : SetOperation → Judged → Element
+concluded operation st =
     pick (st .badly) (refused Coding)
     (pick (st .unfit) (refused Semantics)
     (pick (st .repeated) (refused Coding) (record { answer = Filters operation; filters = st .row; marks = noMarks })))

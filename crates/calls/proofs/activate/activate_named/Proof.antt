@@ -5,7 +5,7 @@ use mathlib.Core.Path.{_≡_, sym, _∙_}
 use mathlib.Core.Bool.{true, _&&_}
 use borrow.Author.Tests.{not-true, not-false}
 use Rattle.table.specs.Bearers.{isDefault, roleOf}
-use Rattle.calls.specs.Others.{unused, activateNamed}
+use Rattle.calls.specs.Others.{available, activateNamed}
 use borrow.Author.Needs.{needs}
 use Rattle.calls.proofs.activate.activate_named.Statement.{statement}
 use Rattle.calls.proofs.activate.activate_named.Tie as tie
@@ -13,11 +13,11 @@ use Rattle.calls.proofs.activate.activate_named.Tie as tie
 -- what the code tests is what the definition tests
 tested : (c : tie.After-is-default) →
     let a = c .before .before .before .before .args in
-    c .before .before .is-unused .result && c .is-default .result ≡ unused (a .t) (a .bearer) && isDefault (roleOf (a .t) (a .link))
-tested c = rw (c .before .before .is-unused .ensures, c .is-default .ensures, c .before .role-of .ensures)
+    c .before .before .is-available .result && c .is-default .result ≡ available (a .t) (a .bearer) && isDefault (roleOf (a .t) (a .link))
+tested c = rw (c .before .before .is-available .ensures, c .is-default .ensures, c .before .role-of .ensures)
 
 allowed : (c : tie.Else1) →
-    let a = c .before .before .before .before .before .args in unused (a .t) (a .bearer) && isDefault (roleOf (a .t) (a .link)) ≡ true
+    let a = c .before .before .before .before .before .args in available (a .t) (a .bearer) && isDefault (roleOf (a .t) (a .link)) ≡ true
 allowed c = sym (tested (c .before)) ∙ not-false _ (c .if1 .left)
 
 pub activate-named-spec : {M : Type 1} → statement M

@@ -6,7 +6,7 @@ use native.Mathlib.Omega.{arith}
 use lib.Dec.{leb}
 use borrow.Author.Tests.{not-true, not-false, leb-true}
 use Rattle.laws.proofs.Tests.{both}
-use Rattle.element.specs.Entries.{Placed, placedAt}
+use Rattle.element.specs.Entries.{Located, locatedAt}
 use Rattle.element.proofs.Frames.{FiltersFramed, IdentifiersFramed, filters-whole, filters-framed, identifiers-framed}
 use Rattle.element.proofs.Offsets.{identifier-there, identifier-nowhere, placed-none, placed-filters, placed-identifiers, placed-bare, after-by}
 use borrow.Author.Needs.{needs}
@@ -34,7 +34,7 @@ within c =
     omega arith
 
 pub after-spec : {M : Type 1} → statement M
-unfolding placedAt
+unfolding locatedAt
 after-spec =
     tie.close
     (tie.spec
@@ -45,7 +45,7 @@ after-spec =
     let f = c .before .before .before in
     let a = f .before .before .before .before .args in
     let b = c .before .identifier-begins in
-    sym (ap (λ (p : Placed). p .after) (identifier-nowhere (a .value .now) (f .frame2 .given .0 .0) (a .at) (identifiers f .few) (sym (b .ensures) ∙ not-true (b .result) (c .if1 .taken))))
+    sym (ap (λ (p : Located). p .after) (identifier-nowhere (a .value .now) (f .frame2 .given .0 .0) (a .at) (identifiers f .few) (sym (b .ensures) ∙ not-true (b .result) (c .if1 .taken))))
     ∙ after-by _ _ (placed-identifiers _ _ (identifiers f)) _)
     within
     (λ c. search needs)
@@ -54,5 +54,5 @@ after-spec =
     (λ c.
     let f = c .before .before .before in
     let a = f .before .before .before .before .args in
-    sym (ap (λ (p : Placed). p .after) (identifier-there (a .value .now) (f .frame2 .given .0 .0) (a .at) (identifiers f .few) (there c))) ∙ after-by _ _ (placed-identifiers _ _ (identifiers f)) _)
+    sym (ap (λ (p : Located). p .after) (identifier-there (a .value .now) (f .frame2 .given .0 .0) (a .at) (identifiers f .few) (there c))) ∙ after-by _ _ (placed-identifiers _ _ (identifiers f)) _)
     (λ c. after-by _ _ (placed-bare _ _ (sym (c .before .before .frame-of .ensures) ∙ c .enum-told2 .given .1)) _))

@@ -8,8 +8,8 @@ use native.Mathlib.Omega.{arith}
 use native.Mathlib.Nat.{sub-zero}
 use lib.ListN.{length, drop, getD}
 use Rattle.element.specs.Framing.{splitOf}
-use Rattle.element.specs.Entries.{placedFilters}
-use Rattle.element.specs.inner.Walk.{whole, placedSplit, beginsAt}
+use Rattle.element.specs.Entries.{locatedFilters}
+use Rattle.element.specs.inner.Walk.{whole, locatedSplit, beginsAt}
 use Rattle.element.proofs.Splitting.{turn-inside, turn-whole}
 use Rattle.element.proofs.Offsets.{turn-found, turn-passed}
 use borrow.Author.Needs.{needs}
@@ -20,7 +20,7 @@ abbrev Inv-loop : tie.InvT-loop
 Inv-loop value n at first₀ passed₀ first passed =
     (passed ≤ n)
     × (whole (splitOf (n - passed) (drop first value)) ≡ true)
-    × (beginsAt (placedSplit first (splitOf (n - passed) (drop first value))) at ≡ beginsAt (placedSplit 1 (splitOf n (drop 1 value))) at)
+    × (beginsAt (locatedSplit first (splitOf (n - passed) (drop first value))) at ≡ beginsAt (locatedSplit 1 (splitOf n (drop 1 value))) at)
 
 abbrev μ-loop : tie.MeasureT-loop
 μ-loop value n at first₀ passed₀ first passed = n - passed
@@ -50,7 +50,7 @@ loop-again c =
     )
 
 returns-2 : tie.Need-returns-2 Inv-loop μ-loop
-unfolding splitOf placedFilters beginsAt
+unfolding splitOf locatedFilters beginsAt
 returns-2 c =
     let l = c .before .loop in
     let e : c .before .before .before .args .n - l .passed ≡ 0 = omega arith in

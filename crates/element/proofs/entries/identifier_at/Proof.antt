@@ -6,7 +6,7 @@ use native.Mathlib.Omega.{arith}
 use lib.Dec.{leb}
 use borrow.Author.Tests.{not-true, not-false, leb-true}
 use Rattle.laws.proofs.Tests.{both}
-use Rattle.element.specs.Entries.{Placed}
+use Rattle.element.specs.Entries.{Located}
 use Rattle.element.proofs.Offsets.{identifier-there, identifier-nowhere}
 use borrow.Author.Needs.{needs}
 use Rattle.element.proofs.entries.identifier_at.Statement.{statement}
@@ -24,7 +24,7 @@ identifier-at-spec =
     (λ c.
     let a = c .before .before .before .args in
     let f = c .before .identifier-begins in
-    sym (ap (λ (p : Placed). p .entry) (identifier-nowhere (a .value .now) (a .n) (a .at) (c .before .before .before .pre) (sym (f .ensures) ∙ not-true (f .result) (c .if1 .taken)))))
+    sym (ap (λ (p : Located). p .entry) (identifier-nowhere (a .value .now) (a .n) (a .at) (c .before .before .before .pre) (sym (f .ensures) ∙ not-true (f .result) (c .if1 .taken)))))
     (λ c.
     let a = c .before .before .before .before .args in
     let l = leb-true (a .at) (a .n) (both (leb 1 (a .at)) (leb (a .at) (a .n)) (there (c .before)) .1) in
@@ -32,4 +32,4 @@ identifier-at-spec =
     (λ c κs. search needs)
     (λ c.
     let a = c .before .before .before .before .before .args in
-    rw (c .identifier-in .ensures) (sym (ap (λ (p : Placed). p .entry) (identifier-there (a .value .now) (a .n) (a .at) (c .before .before .before .before .before .pre) (there (c .before .before)))))))
+    rw (c .identifier-in .ensures) (sym (ap (λ (p : Located). p .entry) (identifier-there (a .value .now) (a .n) (a .at) (c .before .before .before .before .before .pre) (there (c .before .before)))))))

@@ -2,7 +2,7 @@
 -- Assumes nothing.
 use mathlib.Core.Path.{sym, _∙_}
 use borrow.Author.Tests.{eq-eqb, ne-eqb}
-use Rattle.element.specs.Entries.{placedAt, lookAt}
+use Rattle.element.specs.Entries.{locatedAt, lookAt}
 use Rattle.element.proofs.Frames.{FiltersFramed, IdentifiersFramed, filters-whole, filters-framed, identifiers-framed}
 use Rattle.element.proofs.Offsets.{placed-none, placed-filters, placed-identifiers, placed-bare}
 use borrow.Author.Needs.{needs}
@@ -16,7 +16,7 @@ identifiers : (c : tie.After-frame2) → IdentifiersFramed (c .before .before .b
 identifiers c = identifiers-framed _ _ (sym (c .before .before .frame-of .ensures) ∙ c .frame2 .given .1)
 
 pub look-at-spec : {M : Type 1} → statement M
-unfolding placedAt lookAt
+unfolding locatedAt lookAt
 look-at-spec =
     tie.close
     (tie.spec

@@ -33,7 +33,7 @@ returns-3 c =
     let known = f .before .before .before .before in
     let octets = all-of Octet 0 (known .before .args .value .now) (λ k. known .shared-slice-known .given k .fits) in
     rw (le-leb _ 255 (f .before .before .before .if1 .left))
-    (c .verdict .ensures ∙ rw (c .before .judge-all .ensures, part-rest) (filters-judged _ _ _ (filters f) octets))
+    (c .conclude .ensures ∙ rw (c .before .judge-all .ensures, part-rest) (filters-judged _ _ _ (filters f) octets))
 
 returns-4 : tie.Need-returns-4
 unfolding readElement readValue

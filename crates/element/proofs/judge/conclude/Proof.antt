@@ -1,13 +1,13 @@
--- `element::judge::verdict` meets its contract: the first thing that was found wrong decides.
+-- `element::judge::conclude` meets its contract: the first thing that was found wrong decides.
 -- Assumes nothing.
 use Rattle.element.specs.Read.{noMarks}
 use borrow.Author.Needs.{needs}
-use Rattle.element.proofs.judge.verdict.Statement.{statement}
-use Rattle.element.proofs.judge.verdict.Tie as tie
+use Rattle.element.proofs.judge.conclude.Statement.{statement}
+use Rattle.element.proofs.judge.conclude.Tie as tie
 
-pub verdict-spec : {M : Type 1} → statement M
+pub conclude-spec : {M : Type 1} → statement M
 unfolding noMarks
-verdict-spec =
+conclude-spec =
     tie.close
     (tie.spec
     (λ c κs. search needs)
