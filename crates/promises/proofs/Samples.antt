@@ -13,6 +13,10 @@ use Rattle.laws.specs.Index.{allBelow, anyBelow, lastBelow, picks, tab, pad, jo
 use Rattle.laws.specs.Lists.{every, isIn, repeats}
 use Rattle.laws.specs.Numbers.{sameUnder}
 use Rattle.laws.specs.Octets.{beFrom}
+use Rattle.filter.specs.declared.component.Protocol.{Protocol}
+use Rattle.filter.specs.declared.component.Protocol.the-variants.{Absent as noProtocol, Is as isProtocol}
+use Rattle.filter.specs.declared.component.Port.{Port}
+use Rattle.filter.specs.declared.component.Port.the-variants.{Absent as noPort, Is as isPort, Range}
 use Rattle.filter.specs.declared.component.Filter.{Filter}
 use Rattle.filter.specs.Build.{protocol, bare, excluded, added, built, emptyFilter}
 use Rattle.filter.specs.declared.packet.Header.{Header}
@@ -34,7 +38,7 @@ use Rattle.calls.specs.Reply.{causeNumber, refusalNumber}
 use Rattle.calls.specs.Steps.{opensAt, isOpen, closed, ofConnection, deletedIn, holdsIn, staysIn, empties}
 use Rattle.calls.specs.Lay.{old, takenBy, takes, conflict, placed, conflictIn, loses, placedIn, losesAt, conflictOnDefault, follows, released, followers, otherAt, onlyConnection, layWithin, layOf}
 use Rattle.element.specs.Head.{headFine}
-use Rattle.calls.specs.Modify.{deleteFilters, deletedTft, modifyRead, modifyNamed, modifyOf}
+use Rattle.calls.specs.Modify.{deletedFilters, deletedTft, modifyRead, modifyNamed, modifyOf}
 use Rattle.calls.specs.Others.{activateDefaultOf, activateRead, activateNamed, activateDedicatedOf}
 use Rattle.route.specs.declared.answer.Route.the-variants.{Bearer, Discard}
 use Rattle.route.specs.declared.answer.Answer.{Answer as RouteAnswer}
@@ -89,6 +93,19 @@ tells o = told (o .reply .answer) ++ take (o .reply .follow .count) (o .reply .f
 abbrev left : Outcome → ℕ → ℕ → List ℕ
 left o i j = pick (held (filterAt (o .table) i j)) (filterAt (o .table) i j .precedence) 0 ∷ []
 
+-- what stands at index i in place j: precedence, direction, protocol and remote port; a number beyond its type's where there is none
+abbrev protocolIn : Protocol → ℕ
+protocolIn noProtocol = 256
+protocolIn (isProtocol x) = x
+
+abbrev portIn : Port → ℕ
+portIn noPort = 65536
+portIn (isPort x) = x
+portIn (Range low high) = 65537
+
+abbrev stands : Outcome → ℕ → ℕ → List ℕ
+stands o i j = let f = filterAt (o .table) i j in f .precedence ∷ f .direction ∷ protocolIn (f .protocol) ∷ portIn (f .remote) ∷ []
+
 -- a modify without transaction
 abbrev on : Table → ℕ → List ℕ → Outcome
 on t bearer value = outcomeOf t (modify bearer 0 value)
@@ -105,7 +122,7 @@ Samples =
     (
     -- "filter 1, precedence 10, UDP, remote port 5060; accept"
     tells (on none 6 sip)
-    ∷ left (on none 6 sip) 1 1
+    ∷ stands (on none 6 sip) 1 1
     -- "The same without its last octet: 42." "`20`: 42." "`C0`: accept."
     ∷ tells (on none 6 (take 8 sip))
     ∷ tells (on none 6 (0x20 ∷ []))
@@ -131,7 +148,7 @@ Samples =
     -- not marked: "Add of filter 1, precedence 10, over filter 1, precedence 10: no follow-up."
     ∷ tells (on (with false 1 1) 6 add)
     ∷ [])
-    ≡ (accepts 6 [] ∷ (10 ∷ []) ∷ rejects 6 42 ∷ rejects 6 42 ∷ accepts 6 [] ∷ rejects 6 41 ∷ rejects 6 41 ∷ rejects 5 42
+    ≡ (accepts 6 [] ∷ (10 ∷ 3 ∷ 17 ∷ 5060 ∷ []) ∷ rejects 6 42 ∷ rejects 6 42 ∷ accepts 6 [] ∷ rejects 6 41 ∷ rejects 6 41 ∷ rejects 5 42
     ∷ rejects 6 41 ∷ accepts 5 [] ∷ (0 ∷ []) ∷ rejects 6 44 ∷ rejects 6 44 ∷ rejects 6 45
     ∷ accepts 6 (7 ∷ []) ∷ (0 ∷ []) ∷ reattaches ∷ releases 5 ∷ accepts 6 [] ∷ [])
 
@@ -162,7 +179,7 @@ Sequence =
 
 -- ---- Both are computed, by opening the definitions that they are said in
 computed : Samples × Sequence
-unfolding allBelow anyBelow picks tab pad every isIn repeats sameUnder beFrom excluded added built held wellCoded emptyPlace validHeader agreesTransport agreesNetwork fits sample fittable lengthOf componentOf contentsFrom contentsOf splitOf parameters restFits framedBy framedOf noFilters noMarks codedOf elementEntries twice inPlaces marked readValue readElement filterFine bearerFine transactionsApart transactionFrom distinctTransactions joined rowPrecedences connectionPrecedences distinctAt distinctPrecedences wellFormed opensAt isOpen closed ofConnection deletedIn holdsIn staysIn empties old takenBy takes conflict placed conflictIn loses placedIn losesAt conflictOnDefault follows released followers otherAt onlyConnection layWithin layOf headFine deleteFilters deletedTft modifyRead modifyNamed modifyOf run emptyTable activateDefaultOf activateRead activateNamed activateDedicatedOf lastBelow uplink placeHas bearerHas entryIn entryAt entriesOf filterOf entryFits firstFit uplinkAt hasUplink otherwiseOf routeOn routeOf
+unfolding allBelow anyBelow picks tab pad every isIn repeats sameUnder beFrom excluded added built held wellCoded emptyPlace validHeader agreesTransport agreesNetwork fits sample fittable lengthOf componentOf contentsFrom contentsOf splitOf parameters restFits framedBy framedOf noFilters noMarks codedOf elementEntries twice inPlaces marked readValue readElement filterFine bearerFine transactionsApart transactionFrom distinctTransactions joined rowPrecedences connectionPrecedences distinctAt distinctPrecedences wellFormed opensAt isOpen closed ofConnection deletedIn holdsIn staysIn empties old takenBy takes conflict placed conflictIn loses placedIn losesAt conflictOnDefault follows released followers otherAt onlyConnection layWithin layOf headFine deletedFilters deletedTft modifyRead modifyNamed modifyOf run emptyTable activateDefaultOf activateRead activateNamed activateDedicatedOf lastBelow uplink placeHas bearerHas entryIn entryAt entriesOf filterOf entryFits firstFit uplinkAt hasUplink otherwiseOf routeOn routeOf
 computed = (refl, refl)
 
 pub samples : Samples
