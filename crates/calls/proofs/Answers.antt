@@ -14,7 +14,7 @@ use Rattle.element.specs.declared.answer.Answer.{Answer as ReadAnswer}
 use Rattle.element.specs.declared.answer.Answer.the-variants.{Filters, Identifiers, Bare, Refused as readRefused}
 use Rattle.element.specs.declared.answer.Element.{Element}
 use Rattle.laws.proofs.Says.{picked}
-use Rattle.element.specs.Numbers.{Verdict, accepted, refusedFor, verdictOn}
+use Rattle.element.specs.Numbers.{causeNumber as readNumber, Verdict, accepted, refusedFor, verdictOn}
 use Rattle.element.specs.Read.{readElement}
 use Rattle.table.specs.declared.bearer.Role.the-variants.{Dedicated}
 use Rattle.table.specs.declared.bearer.Table.{Table}
@@ -24,7 +24,7 @@ use Rattle.calls.specs.Reply.{causeNumber, causeOf}
 use Rattle.calls.specs.Steps.{isOpen, closed, openedView, empties}
 use Rattle.calls.specs.Lay.{layOf}
 use Rattle.element.specs.Head.{create, deleteTft, operationOf, headFine}
-use Rattle.calls.specs.Modify.{mismatch, creates, deleteFilters, deletedTft, modifiedBy, modifyRead, modifyNamed, modifyOf}
+use Rattle.calls.specs.Modify.{mismatch, creates, deletedFilters, deletedTft, modifiedBy, modifyRead, modifyNamed, modifyOf}
 use Rattle.calls.specs.Others.{available, activateDefaultOf, activatedBy, activateRead, activateNamed, activateDedicatedOf, deactivateOf, rejectOf, startOf}
 use Rattle.calls.specs.Changes.{Gives}
 use Rattle.calls.proofs.Theorems.{laid-number}
@@ -32,6 +32,12 @@ use Rattle.calls.proofs.Theorems.{laid-number}
 -- modify and dedicated activation
 abbrev pub causes : List ℕ
 causes = 0 ∷ 1 ∷ 41 ∷ 42 ∷ 43 ∷ 44 ∷ 45 ∷ 47 ∷ []
+
+-- the reader's cause has the same number in the reply
+pub same-number : (cause : ReadCause) → causeNumber (causeOf cause) ≡ readNumber cause
+same-number Operation = refl
+same-number Semantics = refl
+same-number Coding = refl
 
 cause-in : (cause : ReadCause) → isIn (causeNumber (causeOf cause)) causes ≡ true
 unfolding isIn
@@ -44,7 +50,7 @@ unfolding isIn
 laid-gives t bearer new create = subst (λ (n : ℕ). isIn n causes ≡ true) (sym (laid-number t bearer new create)) refl
 
 modified-gives : (a : ReadAnswer) (t : Table) (bearer : ℕ) (e : Element) → Gives causes (modifiedBy a t bearer e)
-unfolding isIn deleteFilters deletedTft
+unfolding isIn deletedFilters deletedTft
 modified-gives (readRefused refusal) t bearer e = cause-in (refusal .cause)
 modified-gives (Filters operation) t bearer e = laid-gives t bearer (e .filters) (creates operation)
 modified-gives Identifiers t bearer e = picked (Gives causes) (isDedicated (roleOf t bearer) && empties t (indexOf bearer) (e .marks)) _ _ refl refl

@@ -38,12 +38,12 @@ use Rattle.calls.specs.declared.reply.Cause.the-variants.{TftSyntax, Bea
 use Rattle.calls.specs.declared.reply.FollowUps.{FollowUps}
 use Rattle.calls.specs.declared.reply.Outcome.{Outcome}
 use Rattle.calls.specs.Reply.{followOf, answered, rejectedWith}
-use Rattle.calls.specs.Steps.{opensAt, closedView, closed, cutView, ofConnection, deletedIn, deletedView, empties}
+use Rattle.calls.specs.Steps.{opensAt, closedView, closed, cutView, ofConnection, deletedIn, deletedView, empties, home}
 use Rattle.calls.specs.Lay.{old, conflict, placed, conflictIn, loses, placedIn, losesAt, conflictOnDefault, follows, laidView, released, followers, otherAt, onlyConnection, layOrRelease, layWithin, layOf}
 use Rattle.element.specs.Head.{operationOf, headFine}
-use Rattle.calls.specs.Modify.{malformed, mismatch, creates, deleteFilters, deletedTft, modifiedBy, modifyRead, modifyNamed, modifyOf}
+use Rattle.calls.specs.Modify.{malformed, mismatch, creates, deletedFilters, deletedTft, modifiedBy, modifyRead, modifyNamed, modifyOf}
 use Rattle.calls.proofs.Views.{bearer-built, role-built, transaction-built, filter-built}
-use Rattle.calls.specs.Changes.{Listed, Lists, IsDedicated, Only, IsRelease, Taken, home, TakenAt, Trimmed, Conflict, Loses, Closing, Stays, Shortened, Void, Gone, Unnamed, stays, shortened, gone, Brings, Notes}
+use Rattle.calls.specs.Changes.{Listed, Lists, IsDedicated, Only, IsRelease, Taken, TakenAt, Trimmed, Conflict, Loses, Closing, Stays, Shortened, Void, Gone, Unnamed, stays, shortened, gone, Brings, Notes}
 use Rattle.calls.proofs.Preserved.{no-held, closed-well, of-says, conflict-says, active-at}
 
 -- ---- a follow-up list
@@ -382,8 +382,8 @@ module _ (t s : Table) (x : ℕ) (same : (i : ℕ) → i < bearerCount → Stays
             (unlisted (follow-ups s bearer new create h) i (λ q. none (record { at = q .1 .at; below = q .1 .below; holds = q .1 .holds .1 }))))
             (which (anyBelow (λ j. conflict new (ofConnection s (home s bearer) i) (filterAt s i j)) placeCount))
 
-    ways-deleted : (marks : List Bool) → Ways (deleteFilters s bearer marks)
-    unfolding deleteFilters
+    ways-deleted : (marks : List Bool) → Ways (deletedFilters s bearer marks)
+    unfolding deletedFilters
     ways-deleted marks =
         either-way Ways (isDedicated (roleOf s bearer) && empties s (indexOf bearer) marks) _ _ (ways-as s _ refl)
         (ways-as (build (deletedView s (indexOf bearer) marks)) _ (deleted-as s (indexOf bearer) marks i l row-long n))
@@ -489,7 +489,7 @@ module _ (t s : Table) (same : Alike t s) (bearer : ℕ) (value : List ℕ) wher
             }
 
     notes-read : (r : ReadAnswer) → readElement value .answer ≡ r → Notes t bearer value (modifiedBy r s bearer (readElement value))
-    unfolding deletedTft deleteFilters
+    unfolding deletedTft deletedFilters
     notes-read (readRefused refusal) e = refuses s _ refl
     notes-read (Filters operation) e = notes-laid operation e
     notes-read Identifiers e =

@@ -29,7 +29,7 @@ use Rattle.calls.specs.Changes.{Refuses, RefusalLeaves}
 use Rattle.calls.specs.Steps.{isOpen, closed, openedView, empties}
 use Rattle.calls.specs.Lay.{released, onlyConnection, layOrRelease, layWithin, layOf}
 use Rattle.element.specs.Head.{create, deleteTft, operationOf, headFine}
-use Rattle.calls.specs.Modify.{malformed, mismatch, creates, deleteFilters, deletedTft, modifiedBy, modifyRead, modifyNamed, modifyOf}
+use Rattle.calls.specs.Modify.{malformed, mismatch, creates, deletedFilters, deletedTft, modifiedBy, modifyRead, modifyNamed, modifyOf}
 use Rattle.calls.specs.Others.{available, activateDefaultOf, activatedBy, activateRead, activateNamed, activateDedicatedOf, deactivateOf, rejectOf, startOf}
 
 -- ---- a table that is not well formed: every call gives 1 and hands it back as it was
@@ -76,8 +76,8 @@ laid-number t bearer new create =
     laid-by-number (released new create t (indexOf bearer) connection) t bearer connection new create
 
 -- modify, from the last step to the first
-delete-filters-leaves : (t : Table) (bearer : ℕ) (marks : List Bool) → RefusalLeaves t (deleteFilters t bearer marks)
-unfolding deleteFilters
+delete-filters-leaves : (t : Table) (bearer : ℕ) (marks : List Bool) → RefusalLeaves t (deletedFilters t bearer marks)
+unfolding deletedFilters
 delete-filters-leaves t bearer marks =
     picked (RefusalLeaves t) (isDedicated (roleOf t bearer) && empties t (indexOf bearer) marks) _ _ (λ r. refl) (λ r. absurd (r refl))
 

@@ -41,10 +41,10 @@ use Rattle.table.specs.Ranges.{RoleInRange, BearerInRange, TableInRange}
 use Rattle.table.specs.WellFormed.{wellFormed, Well}
 use Rattle.table.proofs.Meaning.{Fine, idle-says, default-says, range-says, place-says, well-says}
 use Rattle.calls.specs.declared.reply.Outcome.{Outcome}
-use Rattle.calls.specs.Steps.{opensAt, isOpen, ownerBelow, closedView, closed, startedView, openedView, cutView, ofConnection, isAt, droppedBy, dropped, deletedIn, deletedView, empties}
+use Rattle.calls.specs.Steps.{opensAt, isOpen, ownerOf, closedView, closed, startedView, openedView, cutView, ofConnection, isAt, droppedBy, dropped, deletedIn, deletedView, empties}
 use Rattle.calls.specs.Lay.{placedIn, laidView, released, layOrRelease, layWithin, layOf}
 use Rattle.element.specs.Head.{create, operationOf, headFine}
-use Rattle.calls.specs.Modify.{creates, mismatch, deleteFilters, deletedTft, modifiedBy, modifyRead, modifyNamed, modifyOf}
+use Rattle.calls.specs.Modify.{creates, mismatch, deletedFilters, deletedTft, modifiedBy, modifyRead, modifyNamed, modifyOf}
 use Rattle.calls.specs.Others.{available, activateDefaultOf, activatedBy, activateRead, activateNamed, activateDedicatedOf, deactivateOf, afterReject, rejectOf, startOf}
 use Rattle.calls.specs.Changes.{Sound}
 use Rattle.calls.proofs.Views.{role-built}
@@ -224,7 +224,7 @@ linkedView t bearer link = openedView t (indexOf bearer) (Dedicated link)
 module _ (t : Table) (sound : Sound t) (value : List ℕ) (octets : All Octet value) where
   modified-sound : (bearer : ℕ) → isIdle (roleOf t bearer) ≡ false → (a : ReadAnswer) → readElement value .answer ≡ a
       → Sound (modifiedBy a t bearer (readElement value) .table)
-  unfolding deleteFilters deletedTft
+  unfolding deletedFilters deletedTft
   modified-sound bearer h (readRefused refusal) e = sound
   modified-sound bearer h (Filters operation) e =
       laid-sound t sound bearer (readElement value .filters) (creates operation) (active-at t bearer h .2) (read-in-range value octets .filters)
@@ -312,7 +312,7 @@ module _ (t : Table) (sound : Sound t) where
       rejectedWith : Sound (afterReject (eqb cause 43) t x)
       rejectedWith =
           let c = closed-sound t sound x in
-          picked Sound (eqb cause 43) (dropped (closed t x) (ownerBelow t x bearerCount)) (closed t x) (dropped-sound (closed t x) c (ownerBelow t x bearerCount)) c
+          picked Sound (eqb cause 43) (dropped (closed t x) (ownerOf t x)) (closed t x) (dropped-sound (closed t x) c (ownerOf t x)) c
 
   pub start-sound : (x bearer : ℕ) → x < 2 ^ 8 → Sound (startOf t x bearer .table)
   unfolding startOf

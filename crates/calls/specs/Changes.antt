@@ -18,6 +18,7 @@ use Rattle.filter.specs.Build.{emptyFilter}
 use Rattle.table.specs.Bearers.{bearerCount, indexOf, identityOf, bearerAt, inRow, roleAt, transactionAt, filterAt, View, view, connectionAt}
 use Rattle.table.specs.Ranges.{TableInRange}
 use Rattle.table.specs.WellFormed.{Held, WellFormed}
+use Rattle.calls.specs.Steps.{home}
 use Rattle.calls.specs.declared.reply.Answer.{Answer}
 use Rattle.calls.specs.declared.reply.Answer.the-variants.{Accept, Release, Reattach}
 use Rattle.calls.specs.declared.reply.FollowUps.{FollowUps}
@@ -70,10 +71,6 @@ IsDedicated t i = (link : ℕ) × (roleAt t i ≡ Dedicated link)
 -- some new filter has the precedence
 abbrev pub Taken : List Filter → ℕ → Type 0
 Taken new p = SomeBelow placeCount (λ l. Held (inRow new l) × (inRow new l .precedence ≡ p))
-
--- the connection of the bearer that is named
-abbrev pub home : Table → ℕ → ℕ
-home t bearer = connectionAt t (indexOf bearer)
 
 module _ (t : Table) (bearer : ℕ) (new : List Filter) where
   -- the old filter at (i, j) is of the connection, and a new one has its precedence

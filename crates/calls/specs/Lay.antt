@@ -10,11 +10,11 @@ use Rattle.filter.specs.Coding.{held}
 use Rattle.table.specs.declared.bearer.Table.{Table}
 use Rattle.filter.specs.Sizes.{placeCount}
 use Rattle.filter.specs.Build.{emptyFilter}
-use Rattle.table.specs.Bearers.{bearerCount, indexOf, identityOf, bearerAt, inRow, roleAt, transactionAt, View, build, isDefault, isDedicated, connectionAt}
+use Rattle.table.specs.Bearers.{bearerCount, indexOf, identityOf, bearerAt, inRow, roleAt, transactionAt, View, build, isDefault, isDedicated}
 use Rattle.calls.specs.declared.reply.Answer.the-variants.{Accept, Release, Reattach}
 use Rattle.calls.specs.declared.reply.Outcome.{Outcome}
 use Rattle.calls.specs.Reply.{outcome, answered}
-use Rattle.calls.specs.Steps.{cutView, ofConnection}
+use Rattle.calls.specs.Steps.{cutView, ofConnection, home}
 
 -- how a bearer stands to the message
 pub record Standing : Type 0 where
@@ -28,10 +28,11 @@ pub record Standing : Type 0 where
 unfoldable pub old : Bool → Standing → Filter → Filter → Filter
 old create s n f = pick (s .named && (create || held n)) emptyFilter f
 
--- a new filter has precedence p
+-- the new filter of place j has precedence p
 unfoldable pub takenBy : List Filter → ℕ → ℕ → Bool
 takenBy new p j = held (inRow new j) && eqb (inRow new j .precedence) p
 
+-- some new filter has it
 unfoldable pub takes : List Filter → ℕ → Bool
 takes new p = anyBelow (takenBy new p) placeCount
 
@@ -96,4 +97,4 @@ layWithin t bearer connection new create = layOrRelease (released new create t (
 
 -- new filters on a bearer, over the old ones or in their place
 unfoldable pub layOf : Table → ℕ → List Filter → Bool → Outcome
-layOf t bearer new create = layWithin t bearer (connectionAt t (indexOf bearer)) new create
+layOf t bearer new create = layWithin t bearer (home t bearer) new create

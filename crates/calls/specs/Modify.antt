@@ -40,8 +40,8 @@ creates Add = false
 creates Replace = false
 
 -- Step 10: "Delete filters that empties a TFT with filters, dedicated bearer: 41."
-unfoldable pub deleteFilters : Table → ℕ → List Bool → Outcome
-deleteFilters t bearer marks =
+unfoldable pub deletedFilters : Table → ℕ → List Bool → Outcome
+deletedFilters t bearer marks =
     pick (isDedicated (roleOf t bearer) && empties t (indexOf bearer) marks) (rejectedWith t bearer TftSemantics)
     (answered (build (deletedView t (indexOf bearer) marks)) (Accept bearer))
 
@@ -53,7 +53,7 @@ deletedTft t bearer = answered (build (deletedView t (indexOf bearer) (replicate
 abbrev pub modifiedBy : ReadAnswer → Table → ℕ → Element → Outcome
 modifiedBy (readRefused refusal) t bearer e = rejectedWith t bearer (causeOf (refusal .cause))
 modifiedBy (Filters operation) t bearer e = layOf t bearer (e .filters) (creates operation)
-modifiedBy Identifiers t bearer e = deleteFilters t bearer (e .marks)
+modifiedBy Identifiers t bearer e = deletedFilters t bearer (e .marks)
 modifiedBy (Bare DeleteTft) t bearer e = deletedTft t bearer
 modifiedBy (Bare NoOperation) t bearer e = answered t (Accept bearer)
 

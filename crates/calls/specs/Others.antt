@@ -10,14 +10,14 @@ use Rattle.element.specs.Head.{create, operationOf, headFine}
 use Rattle.element.specs.Read.{readElement}
 use Rattle.table.specs.declared.bearer.Role.the-variants.{Default, Dedicated}
 use Rattle.table.specs.declared.bearer.Table.{Table}
-use Rattle.table.specs.Bearers.{bearerCount, isIdentity, indexOf, transactionAt, build, isIdle, isDefault, roleOf}
+use Rattle.table.specs.Bearers.{isIdentity, indexOf, transactionAt, build, isIdle, isDefault, roleOf}
 use Rattle.table.specs.WellFormed.{wellFormed}
 use Rattle.calls.specs.declared.reply.Cause.the-variants.{TftSemantics, TftSyntax, BearerIdentity, Transaction}
 use Rattle.calls.specs.declared.reply.Refusal.the-variants.{NotOpen, NoIdentity, AlreadyOpen, NoBearer, BearerBusy}
 use Rattle.calls.specs.declared.reply.Answer.the-variants.{Accept, Started, Closed, Refused}
 use Rattle.calls.specs.declared.reply.Outcome.{Outcome}
-use Rattle.calls.specs.Reply.{causeOf, answered, rejectedWith}
-use Rattle.calls.specs.Steps.{isOpen, ownerBelow, closed, startedView, openedView, dropped}
+use Rattle.calls.specs.Reply.{causeNumber, causeOf, answered, rejectedWith}
+use Rattle.calls.specs.Steps.{isOpen, ownerOf, closed, startedView, openedView, dropped}
 use Rattle.calls.specs.Lay.{layOf}
 use Rattle.calls.specs.Modify.{malformed, mismatch}
 
@@ -58,11 +58,12 @@ deactivateOf t bearer x = pick (wellFormed t) (answered (dropped (closed t x) be
 
 -- "Resource modification reject: closes the transaction; cause 43 also deactivates its bearer, and a default's connection." "Reject: 1, 3."
 abbrev pub afterReject : Bool → Table → ℕ → Table
-afterReject gone t x = pick gone (dropped (closed t x) (ownerBelow t x bearerCount)) (closed t x)
+afterReject gone t x = pick gone (dropped (closed t x) (ownerOf t x)) (closed t x)
 
 unfoldable pub rejectOf : Table → ℕ → ℕ → Outcome
 rejectOf t x cause =
-    pick (wellFormed t) (pick (isOpen t x) (answered (afterReject (eqb cause 43) t x) (Closed x)) (answered t (Refused NotOpen))) (malformed t)
+    pick (wellFormed t)
+    (pick (isOpen t x) (answered (afterReject (eqb cause (causeNumber BearerIdentity)) t x) (Closed x)) (answered t (Refused NotOpen))) (malformed t)
 
 -- "Start of a transaction records identity and bearer." "Start: 1, 4, 6, 7, 5."
 unfoldable pub startOf : Table → ℕ → ℕ → Outcome

@@ -1,11 +1,11 @@
 -- The steps that calls are made of, each a table made from a view of the one before.
-use Prim.Native.Nat.{ℕ, zero, suc}
+use Prim.Native.Nat.{ℕ}
 use mathlib.Core.Bool.{Bool, false, not, _&&_}
 use mathlib.Core.List.{List}
 use lib.Dec.{eqb, leb}
 use lib.ListN.{getD}
 use Rattle.laws.specs.Says.{pick}
-use Rattle.laws.specs.Index.{anyBelow}
+use Rattle.laws.specs.Index.{anyBelow, lastBelow}
 use Rattle.filter.specs.declared.component.Filter.{Filter}
 use Rattle.filter.specs.Coding.{held}
 use Rattle.table.specs.declared.bearer.Role.{Role}
@@ -13,7 +13,7 @@ use Rattle.table.specs.declared.bearer.Role.the-variants.{Idle, Default, Dedica
 use Rattle.table.specs.declared.bearer.Table.{Table}
 use Rattle.filter.specs.Sizes.{placeCount}
 use Rattle.filter.specs.Build.{emptyFilter}
-use Rattle.table.specs.Bearers.{bearerCount, lastTransaction, indexOf, identityOf, bearerAt, inRow, roleAt}
+use Rattle.table.specs.Bearers.{bearerCount, lastTransaction, indexOf, identityOf, bearerAt, inRow, roleAt, inConnection}
 use Rattle.table.specs.Bearers.{transactionAt, filterAt, View, build, roleOf, connectionAt}
 
 -- ---- transactions
@@ -24,10 +24,9 @@ opensAt t x i = eqb (transactionAt t i) x
 unfoldable pub isOpen : Table → ℕ → Bool
 isOpen t x = not (eqb x 0) && leb x lastTransaction && anyBelow (opensAt t x) bearerCount
 
--- the bearer that it is open on
-unfoldable pub ownerBelow : Table → ℕ → ℕ → ℕ
-ownerBelow t x zero = 0
-ownerBelow t x (suc n) = pick (opensAt t x n) (identityOf n) (ownerBelow t x n)
+-- the bearer that it is open on; 0 where there is none
+unfoldable pub ownerOf : Table → ℕ → ℕ
+ownerOf t x = lastBelow (opensAt t x) identityOf 0 bearerCount
 
 abbrev pub closedView : Table → ℕ → View
 closedView t x = record { role = roleAt t; transaction = λ i. pick (opensAt t x i) 0 (transactionAt t i); filter = filterAt t }
@@ -51,8 +50,12 @@ cutView t gone =
       filter = λ i j. pick (gone i) emptyFilter (filterAt t i j);
     }
 
+-- the connection of a bearer
+abbrev pub home : Table → ℕ → ℕ
+home t bearer = connectionAt t (indexOf bearer)
+
 unfoldable pub ofConnection : Table → ℕ → ℕ → Bool
-ofConnection t connection i = eqb (connectionAt t i) connection
+ofConnection t connection i = inConnection connection i (roleAt t i)
 
 unfoldable pub isAt : ℕ → ℕ → Bool
 isAt k i = eqb i k

@@ -30,10 +30,10 @@ use table::Table;
 use table::bearer::BEARERS;
 use table::bearer::FIRST_IDENTITY;
 use table::bearer::connection_at;
+use table::bearer::in_connection;
 use table::bearer::index_of;
 use table::bearer::is_dedicated;
 use table::bearer::is_default;
-use table::bearer::of_connection;
 
 fn choose(b: bool, x: Filter, y: Filter) -> Filter
     ensures { λ r. ⌜ r ≡ pick b x y ⌝ }
@@ -149,7 +149,7 @@ fn losses(
     let mut lost = [false; BEARERS];
     for i in 0..BEARERS {
         let role = roles[i];
-        if of_connection(i, role, connection) {
+        if in_connection(i, role, connection) {
             let b = t.bearers[i];
             let row = b.row;
             lost[i] = row_loses(new, taken, create, i == k, row);
@@ -207,7 +207,7 @@ fn laid_table(
         if (i == k) | lost[i] {
             let b = t.bearers[i];
             let role = b.role;
-            let mine = of_connection(i, role, connection);
+            let mine = in_connection(i, role, connection);
             s.bearers[i] = laid_bearer(new, taken, create, i == k, mine, b);
         }
     }

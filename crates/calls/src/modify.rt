@@ -1,6 +1,6 @@
 // The modify message.
 ghost use mathlib.Core.Path.{_≡_};
-ghost use Rattle.calls.specs.Modify.{malformed, mismatch, creates, deleteFilters, deletedTft, modifiedBy, modifyRead, modifyNamed, modifyOf};
+ghost use Rattle.calls.specs.Modify.{malformed, mismatch, creates, deletedFilters, deletedTft, modifiedBy, modifyRead, modifyNamed, modifyOf};
 use crate::lay::lay;
 use crate::reply::Answer;
 use crate::reply::Cause;
@@ -51,7 +51,7 @@ fn does_create(operation: SetOperation) -> bool
 }
 
 fn delete_filters(t: Table, bearer: u8, marks: [bool; PLACES]) -> Outcome
-    ensures { λ r. ⌜ r ≡ deleteFilters t bearer marks ⌝ }
+    ensures { λ r. ⌜ r ≡ deletedFilters t bearer marks ⌝ }
 {
     if is_dedicated(role_of(t, bearer)) & empties_bearer(t, index_of(bearer), marks) {
         return reject_with(t, bearer, Cause::TftSemantics);

@@ -7,7 +7,7 @@ ghost use Rattle.laws.specs.Index.{anyBelow, tab};
 ghost use Rattle.filter.specs.Build.{emptyFilter};
 ghost use Rattle.table.specs.Bearers.{build, bearerCount};
 ghost use Rattle.calls.specs.inner.Walk.{cutBearer};
-ghost use Rattle.calls.specs.Steps.{opensAt, isOpen, ownerBelow, closed, startedView, openedView, cutView, ofConnection, isAt, dropped, deletedIn, deletedView, holdsIn, staysIn, empties};
+ghost use Rattle.calls.specs.Steps.{opensAt, isOpen, ownerOf, closed, startedView, openedView, cutView, ofConnection, isAt, dropped, deletedIn, deletedView, holdsIn, staysIn, empties};
 ghost use Rattle.filter.specs.Sizes.{placeCount};
 use filter::Filter;
 use filter::coding::held;
@@ -18,8 +18,8 @@ use table::Table;
 use table::bearer::BEARERS;
 use table::bearer::FIRST_IDENTITY;
 use table::bearer::LAST_TRANSACTION;
+use table::bearer::in_connection;
 use table::bearer::index_of;
-use table::bearer::of_connection;
 use table::bearer::role_of;
 
 fn opens_any(t: Table, x: u8) -> bool
@@ -41,7 +41,7 @@ pub(crate) fn is_open(t: Table, x: u8) -> bool
 
 // The bearer that a transaction is open on; 0 where there is none.
 pub(crate) fn owner_of(t: Table, x: u8) -> u8
-    ensures { λ r. ⌜ r ≡ ownerBelow t x bearerCount ⌝ }
+    ensures { λ r. ⌜ r ≡ ownerOf t x ⌝ }
 {
     let mut owner: u8 = 0;
     for i in 0..BEARERS {
@@ -118,7 +118,7 @@ pub(crate) fn without_connection(t: Table, connection: u8) -> Table
     for i in 0..BEARERS {
         let b = t.bearers[i];
         let role = b.role;
-        s.bearers[i] = cut_bearer(of_connection(i, role, connection), b);
+        s.bearers[i] = cut_bearer(in_connection(i, role, connection), b);
     }
     s
 }

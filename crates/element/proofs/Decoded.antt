@@ -37,7 +37,7 @@ use Rattle.element.specs.declared.answer.BareOperation.the-variants.{Del
 use Rattle.element.specs.declared.contents.Coded.{Coded}
 use Rattle.element.specs.declared.contents.Coded.the-variants.{Badly, Well}
 use Rattle.element.specs.Contents.{lengthOf, known, addressOf, componentOf, contentsFrom, contentsOf}
-use Rattle.element.specs.Framing.{Raw, identifierOf, directionOf, Split, cut, split, after, splitOf, restFits, Framed, notFramed, filters, identifiers, bare as bareFrame, framedSplit, framedSet, framedIdentifiers, framedBare, framedBy, framedOf}
+use Rattle.element.specs.Framing.{Raw, identifierOf, directionOf, Split, cut, split, withRaw, splitOf, restFits, Framed, notFramed, filters, identifiers, bare as bareFrame, framedSplit, framedSet, framedIdentifiers, framedBare, framedBy, framedOf}
 use Rattle.element.specs.Read.{Entry, codedOf, Entries, badly, coded, withEntry, entriesOf}
 use Rattle.element.specs.Meaning.{Octet}
 
@@ -233,7 +233,7 @@ abbrev SplitInto : ℕ → Split → Type 0
 SplitInto n cut = Unit {0}
 SplitInto n (split rs rest) = (length rs ≡ n) × All RawOctets rs
 
-after-into : (n : ℕ) (r : Raw) (s : Split) → RawOctets r → SplitInto n s → SplitInto (suc n) (after r s)
+after-into : (n : ℕ) (r : Raw) (s : Split) → RawOctets r → SplitInto n s → SplitInto (suc n) (withRaw r s)
 after-into n r cut q h = tt
 after-into n r (split rs rest) q h = (ap suc (h .0), (q, h .1))
 
@@ -246,7 +246,7 @@ split-into (suc n) (a ∷ p ∷ []) h = tt
 split-into (suc n) (a ∷ p ∷ l ∷ xs) h =
     let r : Raw = record { first = a; precedence = p; contents = take l xs } in
     let octets = h .1 .1 .1 in
-    picked (SplitInto (suc n)) (leb l (length xs)) (after r (splitOf n (drop l xs))) cut
+    picked (SplitInto (suc n)) (leb l (length xs)) (withRaw r (splitOf n (drop l xs))) cut
     (after-into n r (splitOf n (drop l xs)) (record { precedence = h .1 .0; contents = all-take Octet l xs octets })
     (split-into n (drop l xs) (all-drop Octet l xs octets))) tt
 

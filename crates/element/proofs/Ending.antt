@@ -14,7 +14,7 @@ use Rattle.laws.specs.Says.{pick}
 use Rattle.laws.proofs.Parts.{drop-next}
 use Rattle.element.specs.declared.framing.Place.{Place}
 use Rattle.element.specs.declared.framing.Place.the-variants.{Cut, At}
-use Rattle.element.specs.Framing.{Raw, Split, cut, split, after, splitOf, parameters, restFits}
+use Rattle.element.specs.Framing.{Raw, Split, cut, split, withRaw, splitOf, parameters, restFits}
 use Rattle.element.specs.inner.Walk.{partBy, partEnd, placeOf, rawAt}
 
 -- ---- the end of a part is past its start, and not past the end of all
@@ -107,7 +107,7 @@ few n (a ∷ p ∷ l ∷ xs) h = absurd (not-suc-le-zero (le-of-suc-le-suc (le-o
 -- what is left from a place, after the filter r
 abbrev splitFrom : ℕ → List ℕ → Raw → Place → Split
 splitFrom n s r Cut = cut
-splitFrom n s r (At next) = after r (splitOf n (drop next s))
+splitFrom n s r (At next) = withRaw r (splitOf n (drop next s))
 
 -- one filter, whose contents are l of the octets from a place
 one : (n a p l : ℕ) (s : List ℕ) (from : ℕ)
@@ -118,7 +118,7 @@ one n a p l s from = rw (length-drop from s, drop-drop l from s) (by (leb l (len
     r : Raw
     r = record { first = a; precedence = p; contents = take l (drop from s) }
 
-    by : (b : Bool) → pick b (after r (splitOf n (drop (from + l) s))) cut ≡ splitFrom n s r (pick b (At (from + l)) Cut)
+    by : (b : Bool) → pick b (withRaw r (splitOf n (drop (from + l) s))) cut ≡ splitFrom n s r (pick b (At (from + l)) Cut)
     by true = refl
     by false = refl
 
@@ -145,7 +145,7 @@ abbrev pub endFrom : ℕ → List ℕ → Place → Place
 endFrom n s Cut = Cut
 endFrom n s (At next) = placeOf (length s) (splitOf n (drop next s))
 
-place-after : (total : ℕ) (r : Raw) (x : Split) → placeOf total (after r x) ≡ placeOf total x
+place-after : (total : ℕ) (r : Raw) (x : Split) → placeOf total (withRaw r x) ≡ placeOf total x
 place-after total r cut = refl
 place-after total r (split rs rest) = refl
 

@@ -14,7 +14,7 @@ use Rattle.element.specs.declared.answer.Cause.the-variants.{Operation}
 use Rattle.element.specs.declared.entries.Handed.{Handed}
 use Rattle.element.specs.declared.entries.Handed.the-variants.{Filter, Identifier, Refused, End}
 use Rattle.element.specs.Numbers.{numberOf}
-use Rattle.element.specs.Entries.{locatedFilters, locatedIdentifiers, locatedOf, startOf, locatedAt, lookAt, afterAt}
+use Rattle.element.specs.Entries.{locatedFilters, locatedIdentifiers, locatedOf, firstOffset, locatedAt, lookAt, afterAt}
 use Rattle.element.specs.Read.{noFilters, noMarks, codedOf, entriesOf, twice, inPlaces, marked, readValue, readElement}
 use Rattle.element.specs.Contents.{lengthOf, componentOf, contentsFrom, contentsOf}
 use Rattle.element.specs.Framing.{splitOf, parameters, restFits, framedBy, framedOf}
@@ -79,7 +79,7 @@ stepsFrom zero xs at = []
 stepsFrom (suc n) xs at = lookAt xs at ∷ stepsFrom n xs (afterAt xs at)
 
 abbrev steps : ℕ → List ℕ → List Handed
-steps n xs = stepsFrom n xs (startOf xs)
+steps n xs = stepsFrom n xs (firstOffset xs)
 
 -- identifiers, one of them twice, and after them a parameter; no list; a cause, again and again; filters in byte order
 handed-out : steps 5 (0xB3 ∷ 0xF5 ∷ 0x01 ∷ 0x05 ∷ 0x07 ∷ 0x00 ∷ [])
@@ -90,7 +90,7 @@ handed-out : steps 5 (0xB3 ∷ 0xF5 ∷ 0x01 ∷ 0x05 ∷ 0x07 ∷ 0x00 ∷ [])
     ++ (End ∷ [])
     ++ (Refused (record { cause = Operation }) ∷ Refused (record { cause = Operation }) ∷ [])
     ++ (Filter 5 (added (bare 10 3) (protocol 17)) ∷ Filter 1 (added (bare 11 1) (protocol 6)) ∷ End ∷ [])
-unfolding stepsFrom locatedFilters locatedIdentifiers locatedOf startOf locatedAt lookAt afterAt sameUnder beFrom every isIn repeats excluded added validHeader agreesTransport agreesNetwork fits sample fittable noFilters noMarks lengthOf componentOf contentsFrom contentsOf splitOf parameters restFits framedBy framedOf codedOf entriesOf twice inPlaces marked readValue readElement
+unfolding stepsFrom locatedFilters locatedIdentifiers locatedOf firstOffset locatedAt lookAt afterAt sameUnder beFrom every isIn repeats excluded added validHeader agreesTransport agreesNetwork fits sample fittable noFilters noMarks lengthOf componentOf contentsFrom contentsOf splitOf parameters restFits framedBy framedOf codedOf entriesOf twice inPlaces marked readValue readElement
 handed-out = refl
 
 -- what is looked at from an offset on, octet by octet

@@ -16,7 +16,7 @@ use Rattle.element.specs.declared.answer.SetOperation.{SetOperation}
 use Rattle.element.specs.declared.answer.BareOperation.{BareOperation}
 use Rattle.element.specs.declared.framing.Frame.the-variants.{NotFramed, Bare}
 use Rattle.element.specs.declared.entries.Handed.the-variants.{Identifier, End}
-use Rattle.element.specs.Framing.{Raw, identifierIn, Split, cut, split, after, splitOf, Framed, notFramed, filters, identifiers, bare, framedOf}
+use Rattle.element.specs.Framing.{Raw, identifierIn, Split, cut, split, withRaw, splitOf, Framed, notFramed, filters, identifiers, bare, framedOf}
 use Rattle.element.specs.Read.{codedOf}
 use Rattle.element.specs.Entries.{Located, codedFilter, locatedFilter, locatedFilters, locatedIdentifiers, locatedIn, locatedOf, locatedAt, afterAt}
 use Rattle.element.specs.inner.Walk.{frameOf, rawAt, whole, locatedSplit, beginsAt}
@@ -82,7 +82,7 @@ module _ (s : List ℕ) where
     later : Split
     later = splitOf n (drop (at + 3 + getD s (at + 2) 0) s)
 
-    first : splitOf (suc n) (drop at s) ≡ after (rawAt s at) later
+    first : splitOf (suc n) (drop at s) ≡ withRaw (rawAt s at) later
     unfolding later
     first = split-next n s at (inside .0) (inside .1)
 
@@ -99,7 +99,7 @@ module _ (s : List ℕ) where
     unfolding locatedFilters later
     first-placed = ap (locatedSplit at) first ∙ (go later later-whole ∙ rw long)
       where
-        go : (q : Split) → whole q ≡ true → locatedSplit at (after (rawAt s at) q) ≡ locatedFilter at (rawAt s at) ∷ locatedSplit (locatedFilter at (rawAt s at) .after) q
+        go : (q : Split) → whole q ≡ true → locatedSplit at (withRaw (rawAt s at) q) ≡ locatedFilter at (rawAt s at) ∷ locatedSplit (locatedFilter at (rawAt s at) .after) q
         go cut h = absurd (false≢true h)
         go (split rs rest) h = refl
 

@@ -13,7 +13,7 @@ use Rattle.laws.specs.Lists.{All, fold}
 use Rattle.laws.proofs.Parts.{drop-next}
 use Rattle.laws.proofs.Parts.{all-drop}
 use Rattle.element.specs.declared.judge.Judged.{Judged}
-use Rattle.element.specs.Framing.{Raw, Split, cut, split, after, splitOf}
+use Rattle.element.specs.Framing.{Raw, Split, cut, split, withRaw, splitOf}
 use Rattle.element.specs.inner.Walk.{rawAt, whole, judgedRaw, judgedSplit}
 use Rattle.element.specs.Meaning.{Octet}
 
@@ -29,7 +29,7 @@ inside n (a ∷ p ∷ []) e = absurd (false≢true e)
 inside n (a ∷ p ∷ l ∷ xs) e = go (leb l (length xs)) refl e
   where
     go : (b : Bool) → leb l (length xs) ≡ b
-        → whole (pick b (after (record { first = a; precedence = p; contents = take l xs }) (splitOf n (drop l xs))) cut) ≡ true
+        → whole (pick b (withRaw (record { first = a; precedence = p; contents = take l xs }) (splitOf n (drop l xs))) cut) ≡ true
         → (3 ≤ length (a ∷ p ∷ l ∷ xs)) × (3 + l ≤ length (a ∷ p ∷ l ∷ xs))
     go true h e = let u = leb-true l (length xs) h in (omega arith, omega arith)
     go false h e = absurd (false≢true e)
@@ -42,7 +42,7 @@ module _ (n : ℕ) (s : List ℕ) (at : ℕ) where
       (omega arith, omega arith)
 
   pub split-next : at + 3 ≤ length s → at + 3 + getD s (at + 2) 0 ≤ length s
-      → splitOf (suc n) (drop at s) ≡ after (rawAt s at) (splitOf n (drop (at + 3 + getD s (at + 2) 0) s))
+      → splitOf (suc n) (drop at s) ≡ withRaw (rawAt s at) (splitOf n (drop (at + 3 + getD s (at + 2) 0) s))
   unfolding splitOf
   split-next h g =
       let l : getD s (at + 2) 0 ≤ length (drop (at + 3) s) = simp length-drop (omega arith) in
@@ -55,11 +55,11 @@ module _ (n : ℕ) (s : List ℕ) (at : ℕ) where
       )
 
 -- ---- the filters, judged as they stand there
-pub whole-after : (r : Raw) (q : Split) → whole (after r q) ≡ whole q
+pub whole-after : (r : Raw) (q : Split) → whole (withRaw r q) ≡ whole q
 whole-after r cut = refl
 whole-after r (split rs rest) = refl
 
-judged-after : (st : Judged) (r : Raw) (q : Split) → whole q ≡ true → judgedSplit st (after r q) ≡ judgedSplit (judgedRaw st r) q
+judged-after : (st : Judged) (r : Raw) (q : Split) → whole q ≡ true → judgedSplit st (withRaw r q) ≡ judgedSplit (judgedRaw st r) q
 unfolding fold
 judged-after st r cut e = absurd (false≢true e)
 judged-after st r (split rs rest) e = refl
@@ -73,7 +73,7 @@ module _ (s : List ℕ) (n i at : ℕ) (more : i < n) (there : whole (splitOf (n
   turn-inside = split-inside (n - (i + 1)) s at (rw left at there)
 
   module _ (l : ℕ) (long : l ≡ getD s (at + 2) 0) where
-    turn : splitOf (n - i) (drop at s) ≡ after (rawAt s at) (splitOf (n - (i + 1)) (drop (at + 3 + l) s))
+    turn : splitOf (n - i) (drop at s) ≡ withRaw (rawAt s at) (splitOf (n - (i + 1)) (drop (at + 3 + l) s))
     turn = rw (left, long) (split-next (n - (i + 1)) s at (turn-inside .0) (turn-inside .1))
 
     pub turn-whole : whole (splitOf (n - (i + 1)) (drop (at + 3 + l) s)) ≡ true
@@ -88,7 +88,7 @@ Ends xs cut = Unit {0}
 Ends xs (split rs rest) = (length rest ≤ length xs) × (drop (length xs - length rest) xs ≡ rest)
 
 -- after k octets more
-ends-after : (k : ℕ) (xs : List ℕ) (r : Raw) (q : Split) → k ≤ length xs → Ends (drop k xs) q → Ends xs (after r q)
+ends-after : (k : ℕ) (xs : List ℕ) (r : Raw) (q : Split) → k ≤ length xs → Ends (drop k xs) q → Ends xs (withRaw r q)
 ends-after k xs r cut h e = tt
 ends-after k xs r (split rs rest) h e =
     let n : length (drop k xs) ≡ length xs - k = length-drop k xs in
@@ -106,7 +106,7 @@ ends (suc n) (a ∷ p ∷ l ∷ xs) = go (leb l (length xs)) refl (ends n (drop 
     r : Raw
     r = record { first = a; precedence = p; contents = take l xs }
 
-    go : (b : Bool) → leb l (length xs) ≡ b → Ends (drop l xs) (splitOf n (drop l xs)) → Ends (a ∷ p ∷ l ∷ xs) (pick b (after r (splitOf n (drop l xs))) cut)
+    go : (b : Bool) → leb l (length xs) ≡ b → Ends (drop l xs) (splitOf n (drop l xs)) → Ends (a ∷ p ∷ l ∷ xs) (pick b (withRaw r (splitOf n (drop l xs))) cut)
     go true h e = let u = leb-true l (length xs) h in ends-after (suc (suc (suc l))) (a ∷ p ∷ l ∷ xs) r (splitOf n (drop l xs)) (omega arith) e
     go false h e = tt
 
@@ -127,7 +127,7 @@ counted (suc n) (a ∷ []) = tt
 counted (suc n) (a ∷ p ∷ []) = tt
 counted (suc n) (a ∷ p ∷ l ∷ xs) = go (leb l (length xs)) (splitOf n (drop l xs)) (counted n (drop l xs))
   where
-    go : (b : Bool) (q : Split) → Counted n q → Counted (suc n) (pick b (after (record { first = a; precedence = p; contents = take l xs }) q) cut)
+    go : (b : Bool) (q : Split) → Counted n q → Counted (suc n) (pick b (withRaw (record { first = a; precedence = p; contents = take l xs }) q) cut)
     go true cut e = tt
     go true (split rs rest) e = ap suc e
     go false q e = tt
@@ -140,7 +140,7 @@ abbrev Narrow : Split → Type 0
 Narrow cut = Unit {0}
 Narrow (split rs rest) = All OctetPrecedence rs
 
-narrow-after : (r : Raw) (q : Split) → OctetPrecedence r → Narrow q → Narrow (after r q)
+narrow-after : (r : Raw) (q : Split) → OctetPrecedence r → Narrow q → Narrow (withRaw r q)
 narrow-after r cut h e = tt
 narrow-after r (split rs rest) h e = (h, e)
 
@@ -155,7 +155,7 @@ narrow (suc n) (a ∷ p ∷ l ∷ xs) h = go (leb l (length xs)) (narrow n (drop
     r : Raw
     r = record { first = a; precedence = p; contents = take l xs }
 
-    go : (b : Bool) → Narrow (splitOf n (drop l xs)) → Narrow (pick b (after r (splitOf n (drop l xs))) cut)
+    go : (b : Bool) → Narrow (splitOf n (drop l xs)) → Narrow (pick b (withRaw r (splitOf n (drop l xs))) cut)
     go true e = narrow-after r (splitOf n (drop l xs)) (h .1 .0) e
     go false e = tt
 

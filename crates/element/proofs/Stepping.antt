@@ -24,7 +24,7 @@ use Rattle.element.specs.declared.entries.Handed.the-variants.{Filter, I
 use Rattle.element.specs.Numbers.{causeNumber, numberOf, verdictOn, handedNumber}
 use Rattle.element.specs.Framing.{Raw, identifierIn, identifierOf, Framed, notFramed, filters, identifiers, bare, framedOf}
 use Rattle.element.specs.Read.{noFilters, noMarks, refused, Entry, entryFittable, codedOf, Entries as DecodedEntries, badly, coded, withEntry, entriesOf, twice, inPlaces, filterSet, marked, judgedEntries, judgedFrame, readValue, readElement}
-use Rattle.element.specs.Entries.{Located, codedFilter, locatedFilter, locatedFilters, locatedIdentifiers, locatedIn, locatedOf, handedOut, nthBy, nthOf, startBy, startOf, causeIn, locatedAt, lookAt, afterAt, afterAll, IsEntry, Shows, StepsThrough, emptySets, setsOf, laidInto, HandsOutAll, HandsOutCause, Everywhere}
+use Rattle.element.specs.Entries.{Located, codedFilter, locatedFilter, locatedFilters, locatedIdentifiers, locatedIn, locatedOf, handedOut, nthBy, nthOf, firstOffsetBy, firstOffset, causeIn, locatedAt, lookAt, afterAt, afterAll, IsEntry, Shows, StepsThrough, emptySets, setsOf, laidInto, HandsOutAll, HandsOutCause, Everywhere}
 use Rattle.element.proofs.Offsets.{nothingAt, nothing-there, Chained, placed-chained, nothing-before}
 
 -- ---- Each entry is handed out at its offset, and the next one at the offset after it
@@ -155,7 +155,7 @@ frame-hands (bare operation) q = record { entries = tt; sets = refl }
 -- ---- The whole value
 -- an answer that is no cause
 record NoCause (a : Answer) : Type 0 where
-  start : startBy (verdictOn a) ≡ 1
+  start : firstOffsetBy (verdictOn a) ≡ 1
   nth : (hs : List Handed) (n : ℕ) → nthBy (verdictOn a) hs n ≡ getD hs n End
 
 no-cause : (a : Answer) → numberOf a ≡ 0 → NoCause a
@@ -180,14 +180,14 @@ module _ (s : List ℕ) where
       go false q = absurd (let z : _≡_ {A = ℕ} 42 0 = q in omega arith)
 
   pub hands-out-all : numberOf (readElement s .answer) ≡ 0 → HandsOutAll s
-  unfolding startOf locatedOf handedOut
+  unfolding firstOffset locatedOf handedOut
   hands-out-all q =
       let e = judged q in
       let h = frame-hands (framedOf s) (rw e at q) in
       record { entries = h .entries; steps = rw (no-cause (readElement s .answer) q .start) (steps-through s 1 (locatedOf s) (placed s)); sets = rw e (h .sets) }
 
   pub hands-out-cause : (refusal : Refusal) → readElement s .answer ≡ refusedWith refusal → HandsOutCause s refusal
-  unfolding startOf
+  unfolding firstOffset
   hands-out-cause refusal e =
       let h = at-first s in
       record { cause = rw e (h .0 ∙ rw e); again = rw e (h .1) }
@@ -205,20 +205,20 @@ module _ (s : List ℕ) where
   steps-nth (x ∷ hs) at zero h = h .0
   steps-nth (x ∷ hs) at (suc n) h = steps-nth hs (afterAt s at) n (h .1)
 
-  pub nth-steps : (n : ℕ) → lookAt s (afterAll s (startOf s) n) ≡ nthOf s n
+  pub nth-steps : (n : ℕ) → lookAt s (afterAll s (firstOffset s) n) ≡ nthOf s n
   unfolding nthOf
   nth-steps n = go (readElement s .answer) refl
     where
-      all : numberOf (readElement s .answer) ≡ 0 → lookAt s (afterAll s (startOf s) n) ≡ nthBy (verdictOn (readElement s .answer)) (handedOut s) n
-      all q = steps-nth (handedOut s) (startOf s) n (hands-out-all s q .steps) ∙ sym (no-cause (readElement s .answer) q .nth (handedOut s) n)
+      all : numberOf (readElement s .answer) ≡ 0 → lookAt s (afterAll s (firstOffset s) n) ≡ nthBy (verdictOn (readElement s .answer)) (handedOut s) n
+      all q = steps-nth (handedOut s) (firstOffset s) n (hands-out-all s q .steps) ∙ sym (no-cause (readElement s .answer) q .nth (handedOut s) n)
 
-      go : (a : Answer) → readElement s .answer ≡ a → lookAt s (afterAll s (startOf s) n) ≡ nthBy (verdictOn (readElement s .answer)) (handedOut s) n
+      go : (a : Answer) → readElement s .answer ≡ a → lookAt s (afterAll s (firstOffset s) n) ≡ nthBy (verdictOn (readElement s .answer)) (handedOut s) n
       go (Filters operation) e = all (rw e)
       go Identifiers e = all (rw e)
       go (Bare operation) e = all (rw e)
       go (refusedWith refusal) e =
           let h = hands-out-cause s refusal e in
-          rw (still n (startOf s) (h .again), e) (h .cause)
+          rw (still n (firstOffset s) (h .again), e) (h .cause)
 
 -- ---- Whatever is handed out has the number of what the reader gives: 0, or its cause
 entry-number : (hs : List Handed) → All IsEntry hs → (n : ℕ) → handedNumber (getD hs n End) ≡ 0

@@ -3,7 +3,7 @@ use Prim.Native.Nat.{ℕ, zero, suc, _%_, _^_}
 use mathlib.Core.Bool.{Bool, not, _&&_}
 use mathlib.Core.List.{List, [], _∷_}
 use lib.Dec.{eqb, leb}
-use lib.ListN.{take, drop}
+use lib.ListN.{take, drop, getD}
 use Rattle.laws.specs.Says.{pick}
 use Rattle.laws.specs.Octets.{beOf}
 use Rattle.filter.specs.declared.component.Address.{Address}
@@ -12,6 +12,7 @@ use Rattle.filter.specs.Component.{ipv4RemoteType, ipv6RemoteType, protocolType
 use Rattle.filter.specs.Component.{indexType, classType, labelType}
 use Rattle.filter.specs.Build.{Component, ipv4Remote, ipv6Remote, protocol, localPort, localRange, remotePort, remoteRange, index, class, label}
 use Rattle.filter.specs.Build.{excluded, added}
+use Rattle.laws.specs.Index.{allBelow}
 use Rattle.element.specs.declared.contents.Coded.{Coded, the-variants.Badly, the-variants.Well}
 
 -- ---- "Component types and value lengths": a type, how many octets its value has, and what component they say
@@ -57,6 +58,10 @@ lookUp column unknown t (l ∷ ls) = pick (eqb t (l .type)) (column l) (lookUp c
 -- "The length for each of the 256 type octets is one table, 0 where the type is unknown."
 unfoldable pub lengthOf : ℕ → ℕ
 lengthOf t = lookUp (λ l. l .octets) 0 t typeTable
+
+-- ---- the table of lengths: each of its 256 entries is its type's length, the longest that of an IPv6 address and its mask
+abbrev pub lengthsRight : List ℕ → Bool
+lengthsRight lengths = allBelow (λ t. eqb (getD lengths t 0) (lengthOf t) && leb (getD lengths t 0) 32) 256
 
 abbrev pub known : ℕ → Bool
 known t = leb 1 (lengthOf t)

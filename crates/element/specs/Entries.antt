@@ -65,12 +65,12 @@ unfoldable pub nthOf : List ℕ → ℕ → Handed
 nthOf xs n = nthBy (verdictOn (readElement xs .answer)) (handedOut xs) n
 
 -- ---- The offset. At first: 0 where the element reads as a cause, else 1, where its entries begin
-abbrev pub startBy : Verdict → ℕ
-startBy accepted = 1
-startBy (refusedFor refusal) = 0
+abbrev pub firstOffsetBy : Verdict → ℕ
+firstOffsetBy accepted = 1
+firstOffsetBy (refusedFor refusal) = 0
 
-unfoldable pub startOf : List ℕ → ℕ
-startOf xs = startBy (verdictOn (readElement xs .answer))
+unfoldable pub firstOffset : List ℕ → ℕ
+firstOffset xs = firstOffsetBy (verdictOn (readElement xs .answer))
 
 -- ---- What is handed out at an offset: at 0 the cause, if there is one; at an entry's offset that entry; anywhere else the end
 abbrev pub causeIn : Verdict → Handed
@@ -85,7 +85,8 @@ locatedAt (p ∷ ps) at = pick (eqb (p .at) at) p (locatedAt ps at)
 unfoldable pub lookAt : List ℕ → ℕ → Handed
 lookAt xs at = pick (eqb at 0) (causeIn (verdictOn (readElement xs .answer))) (locatedAt (locatedOf xs) at .entry)
 
--- the offset after it; the cause and the end stay where they are, and so come again and again
+-- the offset after it. Where nothing begins, and at 0, it stays, so that the cause and the end come again and again; past a badly coded filter, whose element
+-- reads as a cause, it goes on
 unfoldable pub afterAt : List ℕ → ℕ → ℕ
 afterAt xs at = locatedAt (locatedOf xs) at .after
 
@@ -95,7 +96,7 @@ afterAll xs at (suc n) = afterAll xs (afterAt xs at) n
 
 -- ---- The reader: the octets and the offset
 abbrev pub begun : RefT (List ℕ) → Entries
-begun value = record { value = value; at = startOf (now value) }
+begun value = record { value = value; at = firstOffset (now value) }
 
 abbrev pub moved : Entries → ℕ → Entries
 moved e at = record { value = e .value; at = at }
@@ -142,13 +143,13 @@ laidInto s End = s
 -- of an element that does not read as a cause
 pub record HandsOutAll (xs : List ℕ) : Type 0 where
   pub entries : All IsEntry (handedOut xs)
-  pub steps : StepsThrough xs (startOf xs) (handedOut xs)
+  pub steps : StepsThrough xs (firstOffset xs) (handedOut xs)
   pub sets : fold laidInto emptySets (handedOut xs) ≡ setsOf (readElement xs)
 
 -- of an element that does
 pub record HandsOutCause (xs : List ℕ) (refusal : Refusal) : Type 0 where
-  pub cause : lookAt xs (startOf xs) ≡ Refused refusal
-  pub again : afterAt xs (startOf xs) ≡ startOf xs
+  pub cause : lookAt xs (firstOffset xs) ≡ Refused refusal
+  pub again : afterAt xs (firstOffset xs) ≡ firstOffset xs
 
 -- of every value: at 0 the cause, if there is one; each entry at its offset; at an offset that is neither 0 nor an entry's the end
 pub record Everywhere (xs : List ℕ) : Type 0 where

@@ -30,9 +30,9 @@ pub data Split : Type 0 where
   cut : Split
   split : List Raw → List ℕ → Split
 
-abbrev pub after : Raw → Split → Split
-after r cut = cut
-after r (split rs rest) = split (r ∷ rs) rest
+abbrev pub withRaw : Raw → Split → Split
+withRaw r cut = cut
+withRaw r (split rs rest) = split (r ∷ rs) rest
 
 unfoldable pub splitOf : ℕ → List ℕ → Split
 splitOf zero xs = split [] xs
@@ -40,7 +40,7 @@ splitOf (suc n) [] = cut
 splitOf (suc n) (a ∷ []) = cut
 splitOf (suc n) (a ∷ p ∷ []) = cut
 splitOf (suc n) (a ∷ p ∷ l ∷ xs) =
-    pick (leb l (length xs)) (after (record { first = a; precedence = p; contents = take l xs }) (splitOf n (drop l xs))) cut
+    pick (leb l (length xs)) (withRaw (record { first = a; precedence = p; contents = take l xs }) (splitOf n (drop l xs))) cut
 
 -- "parameters (identifier, length, contents) fill the rest": k octets of the last one are still to pass
 unfoldable pub parameters : ℕ → List ℕ → Bool

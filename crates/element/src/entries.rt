@@ -8,7 +8,7 @@ ghost use lib.ListN.{length, take, drop};
 ghost use Rattle.element.specs.Framing.{splitOf};
 ghost use Rattle.element.specs.Numbers.{verdictOn, handedNumber};
 ghost use Rattle.element.specs.Read.{readElement};
-ghost use Rattle.element.specs.Entries.{locatedIdentifiers, nthOf, startOf, causeIn, locatedAt, lookAt, afterAt, afterAll, begun, advancedOf, skippedOf};
+ghost use Rattle.element.specs.Entries.{locatedIdentifiers, nthOf, firstOffset, causeIn, locatedAt, lookAt, afterAt, afterAll, begun, advancedOf, skippedOf};
 ghost use Rattle.element.specs.inner.Walk.{whole, locatedSplit, beginsAt};
 use crate::answer::Answer;
 use crate::answer::Refusal;
@@ -120,7 +120,7 @@ fn cause_of(value: &[u8]) -> Handed
 
 // The element is judged here, once; from 1 on no offset asks for it again.
 fn start(value: &[u8]) -> usize
-    ensures { λ r. ⌜ r ≡ startOf (now (value .entry)) ⌝ }
+    ensures { λ r. ⌜ r ≡ firstOffset (now (value .entry)) ⌝ }
 {
     let element = read(value);
     let answer = element.answer;

@@ -2,8 +2,7 @@
 ghost use mathlib.Core.Path.{_≡_};
 ghost use mathlib.Core.Bool.{true};
 ghost use Prim.Native.Nat.{_≤_};
-ghost use Rattle.element.specs.Contents.{lengthOf};
-ghost use Rattle.element.specs.inner.Walk.{lengthsRight};
+ghost use Rattle.element.specs.Contents.{lengthOf, lengthsRight};
 use crate::octets::wide;
 
 const LENGTHS: [u8; 256] = [

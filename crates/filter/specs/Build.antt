@@ -1,4 +1,4 @@
--- "A filter is built up one component at a time, each addition handing the filter back."
+-- "A filter is built up one component at a time, each addition handing the filter back; .."
 use Prim.Native.Nat.{ℕ}
 use mathlib.Core.Bool.{Bool, false, _||_}
 use mathlib.Core.List.{List, [], _∷_}

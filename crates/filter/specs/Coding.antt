@@ -15,7 +15,7 @@ abbrev pub labelFits : Label → Bool
 labelFits noLabel = true
 labelFits (isLabel label) = leb label largestLabel
 
--- "each filter is well coded (flow label at most 1048575, direction at most 3)"
+-- "each filter is well coded (flow label at most 1048575, direction at most 3)"; "Contents hold at least one component"
 unfoldable pub wellCoded : Filter → Bool
 wellCoded f = held f && leb (f .direction) 3 && labelFits (f .label)
 

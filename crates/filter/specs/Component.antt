@@ -23,41 +23,41 @@ abbrev pub largestLabel : ℕ
 largestLabel = 1048575
 
 -- ---- "Component types and value lengths": the types, of an octet each
--- "10 hex: IPv4 remote address, mask"
+-- 10 hex: "IPv4 remote address, mask"
 abbrev pub ipv4RemoteType : ℕ
 ipv4RemoteType = 0x10
 
--- "20: IPv6 remote address, mask"
+-- 20: "IPv6 remote address, mask"
 abbrev pub ipv6RemoteType : ℕ
 ipv6RemoteType = 0x20
 
--- "30: protocol"
+-- 30: "protocol"
 abbrev pub protocolType : ℕ
 protocolType = 0x30
 
--- "40 / 41: local port / range low, high"
+-- 40 / 41: "local port / range low, high"
 abbrev pub localPortType : ℕ
 localPortType = 0x40
 
 abbrev pub localRangeType : ℕ
 localRangeType = 0x41
 
--- "50 / 51: remote port / range"
+-- 50 / 51: "remote port / range"
 abbrev pub remotePortType : ℕ
 remotePortType = 0x50
 
 abbrev pub remoteRangeType : ℕ
 remoteRangeType = 0x51
 
--- "60: security parameter index"
+-- 60: "security parameter index"
 abbrev pub indexType : ℕ
 indexType = 0x60
 
--- "70: traffic class, mask"
+-- 70: "traffic class, mask"
 abbrev pub classType : ℕ
 classType = 0x70
 
--- "80: flow label, low 20 bits"
+-- 80: "flow label, low 20 bits"
 abbrev pub labelType : ℕ
 labelType = 0x80
 

@@ -116,7 +116,7 @@ pub fn role_of(t: Table, identity: u8) -> Role
 }
 
 // Whether a bearer of this role at index i is of the connection.
-pub fn of_connection(i: usize, role: Role, connection: u8) -> bool
+pub fn in_connection(i: usize, role: Role, connection: u8) -> bool
     ensures { λ r. ⌜ r ≡ inConnection connection i role ⌝ }
 {
     match role {

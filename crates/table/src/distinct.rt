@@ -7,8 +7,8 @@ ghost use Rattle.table.specs.inner.Walk.{noneMarked, marked};
 use crate::bearer::BEARERS;
 use crate::bearer::FIRST_IDENTITY;
 use crate::bearer::Table;
+use crate::bearer::in_connection;
 use crate::bearer::is_default;
-use crate::bearer::of_connection;
 use filter::Filter;
 use filter::coding::held;
 use filter::component::PLACES;
@@ -51,7 +51,7 @@ fn distinct_within(t: Table, connection: u8) -> bool
     for k in 0..BEARERS {
         let b = t.bearers[k];
         let role = b.role;
-        if of_connection(k, role, connection) {
+        if in_connection(k, role, connection) {
             let row = b.row;
             marks = mark_row(marks, row);
         }

@@ -6,7 +6,6 @@ use lib.Dec.{eqb, leb, ltb}
 use lib.ListN.{length, take, drop, getD, set, replicate}
 use Rattle.laws.specs.Says.{pick}
 use Rattle.laws.specs.Lists.{fold}
-use Rattle.laws.specs.Index.{allBelow}
 use Rattle.laws.specs.Octets.{beBytes}
 use Rattle.filter.specs.declared.component.RemoteAddress.{RemoteAddress}
 use Rattle.filter.specs.declared.component.RemoteAddress.the-variants.{Absent as noAddress, V4, V6}
@@ -48,10 +47,6 @@ use Rattle.element.specs.Contents.{lengthOf, known, componentOf}
 use Rattle.element.specs.Framing.{Raw, identifierOf, Split, cut, split, Framed, notFramed, filters, identifiers, bare}
 use Rattle.element.specs.Entries.{Located, locatedFilters}
 use Rattle.element.specs.Write.{addressBytes, entryOctets}
-
--- ---- the table of lengths: each of its 256 entries is its type's length, the longest that of an IPv6 address and its mask
-abbrev pub lengthsRight : List ℕ → Bool
-lengthsRight lengths = allBelow (λ t. eqb (getD lengths t 0) (lengthOf t) && leb (getD lengths t 0) 32) 256
 
 -- ---- one component at a place of the contents
 abbrev pub stepBy : ℕ → ℕ → Filter → List ℕ → ℕ → Step

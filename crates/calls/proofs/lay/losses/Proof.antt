@@ -34,7 +34,7 @@ loop-again c =
     let a = start .args in
     let l = c .before .before .before .before .loop in
     let lost = losesAt (a .new) (a .create) (a .t4) (a .k) (a .connection) in
-    let mine = sym (c .before .of-connection .ensures ∙ ap (λ (role : Role). eqb (connectionOf (l .i) role) (a .connection)) (role-at (a .t4) (a .t5) (start .pre .1) (l .i) (omega arith))) in (
+    let mine = sym (c .before .in-connection .ensures ∙ ap (λ (role : Role). eqb (connectionOf (l .i) role) (a .connection)) (role-at (a .t4) (a .t5) (start .pre .1) (l .i) (omega arith))) in (
       omega arith,
       ⊎-elim
           (λ w. w .4 ∙ stored-more lost (replicate bearerCount false) (l .i) (l .lost) _ (mine-loses (a .new) (a .create) (a .t4) (a .k) (a .connection) (l .i) _ (mine ∙ w .0 .taken) (w .3 .ensures)) (l .inv .1))

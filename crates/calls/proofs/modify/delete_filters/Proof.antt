@@ -4,7 +4,7 @@ use mathlib.Core.Path.{_≡_, sym, _∙_}
 use mathlib.Core.Bool.{_&&_}
 use Rattle.table.specs.Bearers.{indexOf, isDedicated, roleOf}
 use Rattle.calls.specs.Steps.{empties}
-use Rattle.calls.specs.Modify.{deleteFilters}
+use Rattle.calls.specs.Modify.{deletedFilters}
 use borrow.Author.Needs.{needs}
 use Rattle.calls.proofs.modify.delete_filters.Statement.{statement}
 use Rattle.calls.proofs.modify.delete_filters.Tie as tie
@@ -16,7 +16,7 @@ tested : (c : tie.After-empties-bearer) →
 tested c = rw (c .before .before .is-dedicated .ensures, c .empties-bearer .ensures, c .before .before .before .role-of .ensures, c .before .index-of .ensures)
 
 pub delete-filters-spec : {M : Type 1} → statement M
-unfolding deleteFilters
+unfolding deletedFilters
 delete-filters-spec =
     tie.close
     (tie.spec

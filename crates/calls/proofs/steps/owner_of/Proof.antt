@@ -6,38 +6,40 @@ use Prim.Native.Nat.{_≤_, _-_}
 use native.Mathlib.Omega.{arith}
 use borrow.Author.Tests.{eq-eqb, ne-eqb}
 use Rattle.laws.proofs.Index.{next, done}
-use Rattle.table.specs.Bearers.{transactionAt, bearerCount}
-use Rattle.calls.specs.Steps.{opensAt, ownerBelow}
+use Rattle.table.specs.Bearers.{transactionAt, bearerCount, identityOf}
+use Rattle.laws.specs.Index.{lastBelow}
+use Rattle.calls.specs.Steps.{opensAt, ownerOf}
 use borrow.Author.Needs.{needs}
 use Rattle.calls.proofs.steps.owner_of.Statement.{statement}
 use Rattle.calls.proofs.steps.owner_of.Tie as tie
 
 abbrev Inv-loop : tie.InvT-loop
-Inv-loop x t owner₀ i₀ owner i = (i ≤ bearerCount) × (owner ≡ ownerBelow t x i)
+Inv-loop x t owner₀ i₀ owner i = (i ≤ bearerCount) × (owner ≡ lastBelow (opensAt t x) identityOf 0 i)
 
 abbrev μ-loop : tie.MeasureT-loop
 μ-loop x t owner₀ i₀ owner i = bearerCount - i
 
 loop-holds : tie.Need-loop-holds Inv-loop μ-loop
-unfolding ownerBelow
+unfolding lastBelow
 loop-holds c = (omega arith, refl)
 
 loop-again : tie.Need-loop-again Inv-loop μ-loop
-unfolding ownerBelow opensAt
+unfolding lastBelow opensAt
 loop-again c =
     let a = c .before .before .before .before .before .args in
     let l = c .before .before .before .before .loop in (
       omega arith,
-      next (ownerBelow (a .t1) (a .x)) (l .i) (c .if1 .owner)
+      next (lastBelow (opensAt (a .t1) (a .x)) identityOf 0) (l .i) (c .if1 .owner)
           (⊎-elim (λ w. rw (eq-eqb (transactionAt (a .t1) (l .i)) (a .x) (w .0 .taken)) (w .1))
           (λ w. rw (ne-eqb (transactionAt (a .t1) (l .i)) (a .x) (w .0 .left)) (w .1 ∙ l .inv .1)) (c .if1 .came)),
     )
 
 returns : tie.Need-returns Inv-loop μ-loop
+unfolding ownerOf
 returns c =
     let a = c .before .before .args in
     let l = c .before .loop in
-    done (ownerBelow (a .t1) (a .x)) (l .i) bearerCount _ (omega arith) (omega arith) (l .inv .1)
+    done (lastBelow (opensAt (a .t1) (a .x)) identityOf 0) (l .i) bearerCount _ (omega arith) (omega arith) (l .inv .1)
 
 pub owner-of-spec : {M : Type 1} → statement M
 owner-of-spec =

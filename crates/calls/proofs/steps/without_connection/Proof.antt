@@ -1,4 +1,4 @@
--- `calls::steps::without_connection` meets its contract: the bearers before the index are those of the view, by what `of_connection` and `cut_bearer` give.
+-- `calls::steps::without_connection` meets its contract: the bearers before the index are those of the view, by what `in_connection` and `cut_bearer` give.
 -- Assumes nothing.
 use mathlib.Core.Path.{_∙_, ap}
 use mathlib.Core.Bool.{Bool}
@@ -28,7 +28,7 @@ unfolding ofConnection
 loop-again c =
     let a = c .before .before .before .before .before .args in
     let l = c .before .before .before .before .loop in
-    let cut = ap (λ (gone : Bool). cutBearer gone (bearerAt (a .t1) (l .i))) (c .before .of-connection .ensures) in
+    let cut = ap (λ (gone : Bool). cutBearer gone (bearerAt (a .t1) (l .i))) (c .before .in-connection .ensures) in
     store-more (cutView (a .t1) (ofConnection (a .t1) (a .connection))) (a .t1) (l .s) (l .i) _
     (c .before .before .before .loop-test .taken) (c .cut-bearer .ensures ∙ cut) (l .inv)
 

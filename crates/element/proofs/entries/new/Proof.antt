@@ -38,7 +38,7 @@ use denote.Triple.Walked.{says, Stays, stay-none-slice, walkOf, goes-none-slice,
 use denote.Exit.{yes}
 use denote.Triple.Clauses.{ensured, lasts}
 use Rattle.element.specs.declared.entries.Entries.{Entries}
-use Rattle.element.specs.Entries.{startOf}
+use Rattle.element.specs.Entries.{firstOffset}
 use Rattle.element.proofs.entries.Entries.Laws as T′
 use Rattle.element.proofs.Held.{octets, OwnSlice, slice-twice, struct-made}
 use Rattle.element.proofs.entries.start as start
@@ -60,7 +60,7 @@ module _ {M : Type 1} (𝓤 : URA M) (H : Heap 𝓤) (A : Atoms 𝓤) (mem : Mem
 
 module _ {M : Type 1} (𝓤 : URA M) (H : Heap 𝓤) (A : Atoms 𝓤) (W : Given 𝓤 H A) (mem : Memory → SProp 𝓤) (run : Routine → Fun 𝓤) (κ : Lft) (q : Share) (s : RefT (List ℕ)) where
   abbrev found : ℕ
-  found = startOf (now s)
+  found = firstOffset (now s)
 
   abbrev made : ℕ → Entries
   made at = record { value = s; at = at }

@@ -1,12 +1,12 @@
 -- `element::entries::start` meets its contract: by the answer that was read.
 -- Assumes nothing.
 use borrow.Author.Needs.{needs}
-use Rattle.element.specs.Entries.{startOf}
+use Rattle.element.specs.Entries.{firstOffset}
 use Rattle.element.proofs.entries.start.Statement.{statement}
 use Rattle.element.proofs.entries.start.Tie as tie
 
 pub start-spec : {M : Type 1} → statement M
-unfolding startOf
+unfolding firstOffset
 start-spec =
     tie.close
     (tie.spec

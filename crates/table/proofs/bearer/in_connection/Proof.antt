@@ -1,4 +1,4 @@
--- `table::bearer::of_connection` meets its contract: by the role that was matched; a default is of the connection whose index is its own.
+-- `table::bearer::in_connection` meets its contract: by the role that was matched; a default is of the connection whose index is its own.
 -- Assumes nothing.
 use mathlib.Core.Path.{_≡_}
 use mathlib.Core.Bool.{_&&_}
@@ -8,8 +8,8 @@ use lib.Dec.{eqb, leb}
 use Rattle.laws.proofs.Says.{says-eq, says-le, says-and, says-so, says-same}
 use borrow.Author.Needs.{needs}
 use Rattle.table.specs.Bearers.{firstIdentity, indexOf, identityOf}
-use Rattle.table.proofs.bearer.of_connection.Statement.{statement}
-use Rattle.table.proofs.bearer.of_connection.Tie as tie
+use Rattle.table.proofs.bearer.in_connection.Statement.{statement}
+use Rattle.table.proofs.bearer.in_connection.Tie as tie
 
 own : (connection i : ℕ) → leb firstIdentity connection && eqb i (indexOf connection) ≡ eqb (identityOf i) connection
 own connection i =
@@ -21,8 +21,8 @@ own connection i =
     r) (λ e. (omega arith, omega arith)))
     (says-eq (identityOf i) connection)
 
-pub of-connection-spec : {M : Type 1} → statement M
-of-connection-spec =
+pub in-connection-spec : {M : Type 1} → statement M
+in-connection-spec =
     tie.close
     (tie.spec
     (λ c. search needs) (λ c. search needs) (λ c κs. search needs) (λ c. search needs)

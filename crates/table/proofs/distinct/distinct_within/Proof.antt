@@ -30,7 +30,7 @@ loop-again : tie.Need-loop-again Inv-loop μ-loop
 loop-again c =
     let a = c .before .before .before .before .before .before .args in
     let l = c .before .before .before .before .loop in
-    let e = sym (c .before .of-connection .ensures) in
+    let e = sym (c .before .in-connection .ensures) in
     let turn =
     ⊎-elim {C = c .if1 .marks ≡ fold marked (l .marks) (precedencesOf (a .t1) (a .connection) (l .k))} (λ w. w .3 ∙ w .2 .ensures ∙ marked-row (l .marks) _ _ (e ∙ w .0 .taken))
     (λ w. w .1 ∙ marked-none (l .marks) _ _ (e ∙ w .0 .left)) (c .if1 .came) in
