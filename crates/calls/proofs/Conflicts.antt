@@ -80,35 +80,35 @@ pub took-is : (new : List Filter) (ms : List Bool) (p : ℕ) → p < precedenceC
 took-is new ms p l e = ap (λ (ms : List Bool). getD ms p false) e ∙ tab-at (takes new) precedenceCount p false l
 
 -- ---- one place
-pub conflict-yes : (mine h took : Bool) → mine && took ≡ true → h ≡ mine && h && took
+pub conflict-yes : (connected h took : Bool) → connected && took ≡ true → h ≡ connected && h && took
 conflict-yes true true took e = sym e
 conflict-yes true false took e = refl
 conflict-yes false h took e = never e refl
 
-pub conflict-no : (mine h took : Bool) → mine && took ≡ false → false ≡ mine && h && took
+pub conflict-no : (connected h took : Bool) → connected && took ≡ false → false ≡ connected && h && took
 conflict-no true true took e = sym e
 conflict-no true false took e = refl
 conflict-no false h took e = refl
 
-module _ (new : List Filter) (create named mine : Bool) (n f : Filter) (took hit : Bool) (et : took ≡ takes new (f .precedence)) (eh : hit ≡ mine && held f && took) where
-  hit-is : hit ≡ conflict new mine f
+module _ (new : List Filter) (create named connected : Bool) (n f : Filter) (took hit : Bool) (et : took ≡ takes new (f .precedence)) (eh : hit ≡ connected && held f && took) where
+  hit-is : hit ≡ conflict new connected f
   unfolding conflict
-  hit-is = eh ∙ ap (λ (b : Bool). mine && held f && b) et
+  hit-is = eh ∙ ap (λ (b : Bool). connected && held f && b) et
 
-  no-conflict : (mine : Bool) → conflict new mine emptyFilter ≡ false
+  no-conflict : (connected : Bool) → conflict new connected emptyFilter ≡ false
   unfolding conflict held
   no-conflict true = refl
   no-conflict false = refl
 
-  pub conflict-old : (rem : Bool) → rem ≡ not (named && (create || held n)) → rem && hit ≡ conflict new mine (old create (so named mine) n f)
+  pub conflict-old : (rem : Bool) → rem ≡ not (named && (create || held n)) → rem && hit ≡ conflict new connected (old create (so named connected) n f)
   unfolding old
   conflict-old rem er = ap (λ (b : Bool). b && hit) er ∙ ap (λ (b : Bool). not (named && (create || held n)) && b) hit-is ∙ go (named && (create || held n))
     where
-      go : (b : Bool) → not b && conflict new mine f ≡ conflict new mine (pick b emptyFilter f)
-      go true = sym (no-conflict mine)
+      go : (b : Bool) → not b && conflict new connected f ≡ conflict new connected (pick b emptyFilter f)
+      go true = sym (no-conflict connected)
       go false = refl
 
-  pub placed-by : pick (named && held n) n (pick ((named && create) || hit) emptyFilter f) ≡ placed new create (so named mine) n f
+  pub placed-by : pick (named && held n) n (pick ((named && create) || hit) emptyFilter f) ≡ placed new create (so named connected) n f
   unfolding placed old
   placed-by =
       ap (λ (b : Bool). pick (named && held n) n (pick ((named && create) || b) emptyFilter f)) hit-is ∙ go named (held n) create
@@ -117,11 +117,11 @@ module _ (new : List Filter) (create named mine : Bool) (n f : Filter) (took hit
       same true = refl
       same false = refl
 
-      go : (named h create : Bool) → pick (named && h) n (pick ((named && create) || conflict new mine f) emptyFilter f)
-          ≡ pick (named && h) n (pick (conflict new mine (pick (named && (create || h)) emptyFilter f)) emptyFilter (pick (named && (create || h)) emptyFilter f))
+      go : (named h create : Bool) → pick (named && h) n (pick ((named && create) || conflict new connected f) emptyFilter f)
+          ≡ pick (named && h) n (pick (conflict new connected (pick (named && (create || h)) emptyFilter f)) emptyFilter (pick (named && (create || h)) emptyFilter f))
       go false h create = refl
       go true true create = refl
-      go true false true = same (conflict new mine emptyFilter)
+      go true false true = same (conflict new connected emptyFilter)
       go true false false = refl
 
 -- ---- the roles, read once
@@ -135,12 +135,12 @@ module _ (new : List Filter) (create : Bool) where
   loses-none named row = any-none (conflictIn new create (so named false) row) placeCount (λ j. refl)
 
   -- a row that is not the named bearer's and loses nothing stays
-  pub row-stands : (mine : Bool) (row : List Filter) → length row ≡ placeCount → loses new create (so false mine) row ≡ false
-      → row ≡ tab (placedIn new create (so false mine) row) placeCount
+  pub row-stands : (connected : Bool) (row : List Filter) → length row ≡ placeCount → loses new create (so false connected) row ≡ false
+      → row ≡ tab (placedIn new create (so false connected) row) placeCount
   unfolding loses conflictIn placedIn placed old
-  row-stands mine row long e =
-      tab-is emptyFilter (placedIn new create (so false mine) row) row placeCount long
-      (λ j l. let no : conflict new mine (inRow row j) ≡ false = any-no (conflictIn new create (so false mine) row) placeCount j l e in
+  row-stands connected row long e =
+      tab-is emptyFilter (placedIn new create (so false connected) row) row placeCount long
+      (λ j l. let no : conflict new connected (inRow row j) ≡ false = any-no (conflictIn new create (so false connected) row) placeCount j l e in
       ap (λ (b : Bool). pick b emptyFilter (inRow row j)) (sym no))
 
   -- ---- the bearers
@@ -148,12 +148,12 @@ module _ (new : List Filter) (create : Bool) where
     pub mine-loses : (i : ℕ) (r : Bool) → ofConnection t connection i ≡ true → r ≡ loses new create (so (eqb i k) true) (bearerAt t i .row)
         → r ≡ losesAt new create t k connection i
     unfolding losesAt
-    mine-loses i r m e = e ∙ ap (λ (mine : Bool). loses new create (so (eqb i k) mine) (bearerAt t i .row)) (sym m)
+    mine-loses i r m e = e ∙ ap (λ (connected : Bool). loses new create (so (eqb i k) connected) (bearerAt t i .row)) (sym m)
 
     pub other-loses : (i : ℕ) → ofConnection t connection i ≡ false → false ≡ losesAt new create t k connection i
     unfolding losesAt
     other-loses i m =
-        sym (loses-none (eqb i k) (bearerAt t i .row)) ∙ ap (λ (mine : Bool). loses new create (so (eqb i k) mine) (bearerAt t i .row)) (sym m)
+        sym (loses-none (eqb i k) (bearerAt t i .row)) ∙ ap (λ (connected : Bool). loses new create (so (eqb i k) connected) (bearerAt t i .row)) (sym m)
 
     module _ (lost : List Bool) (e : lost ≡ tab (losesAt new create t k connection) bearerCount) where
       pub lost-at : (i : ℕ) → i < bearerCount → getD lost i false ≡ losesAt new create t k connection i

@@ -274,7 +274,7 @@ pub takes-says : (new : List Filter) (p : ℕ) → Says (takes new p) (Taken new
 unfolding takes takenBy
 takes-says new p = says-any placeCount (λ l m. says-and (says-it (held (inRow new l))) (says-eq (inRow new l .precedence) p))
 
-pub conflict-says : (new : List Filter) {mine : Bool} {P : Type 0} → Says mine P → (f : Filter) → Says (conflict new mine f) ((P × Held f) × Taken new (f .precedence))
+pub conflict-says : (new : List Filter) {connected : Bool} {P : Type 0} → Says connected P → (f : Filter) → Says (conflict new connected f) ((P × Held f) × Taken new (f .precedence))
 unfolding conflict
 conflict-says new s f = says-and (says-and s (says-it (held f))) (takes-says new (f .precedence))
 
@@ -283,23 +283,23 @@ pick-same true x = refl
 pick-same false x = refl
 
 -- at one place: the new filter, or the old one without a conflict, or nothing
-module _ (new : List Filter) (create named mine : Bool) (n f : Filter) where
+module _ (new : List Filter) (create named connected : Bool) (n f : Filter) where
   pub record New : Type 0 where
     pub on : named ≡ true
     pub has : Held n
-    pub is : placed new create (so named mine) n f ≡ n
+    pub is : placed new create (so named connected) n f ≡ n
 
   pub record Old : Type 0 where
-    pub is : placed new create (so named mine) n f ≡ f
-    pub clear : conflict new mine f ≡ false
+    pub is : placed new create (so named connected) n f ≡ f
+    pub clear : conflict new connected f ≡ false
 
-  pub placed-cases : New ⊎ (Old ⊎ (placed new create (so named mine) n f ≡ emptyFilter))
+  pub placed-cases : New ⊎ (Old ⊎ (placed new create (so named connected) n f ≡ emptyFilter))
   unfolding placed old
-  placed-cases = go (named && held n) (named && (create || held n)) (conflict new mine f) refl refl refl
+  placed-cases = go (named && held n) (named && (create || held n)) (conflict new connected f) refl refl refl
     where
-      go : (b c d : Bool) → named && held n ≡ b → named && (create || held n) ≡ c → conflict new mine f ≡ d → New ⊎ (Old ⊎ (placed new create (so named mine) n f ≡ emptyFilter))
+      go : (b c d : Bool) → named && held n ≡ b → named && (create || held n) ≡ c → conflict new connected f ≡ d → New ⊎ (Old ⊎ (placed new create (so named connected) n f ≡ emptyFilter))
       go true c d p q r = let h = both named (held n) p in inl (record { on = h .0; has = h .1; is = rw p })
-      go false true d p q r = inr (inr (rw (p, q) (pick-same (conflict new mine emptyFilter) emptyFilter)))
+      go false true d p q r = inr (inr (rw (p, q) (pick-same (conflict new connected emptyFilter) emptyFilter)))
       go false false true p q r = inr (inr (rw (p, q, r)))
       go false false false p q r = inr (inl (record { is = rw (p, q, r); clear = r }))
 

@@ -56,10 +56,10 @@ fn taken_by(new: [Filter; PLACES]) -> [bool; PRECEDENCES]
 }
 
 // `taken`: a new filter has this one's precedence. Most have none, so few are looked into.
-fn in_conflict(taken: bool, mine: bool, f: Filter) -> bool
-    ensures { λ r. ⌜ r ≡ mine && held f && taken ⌝ }
+fn in_conflict(taken: bool, connected: bool, f: Filter) -> bool
+    ensures { λ r. ⌜ r ≡ connected && held f && taken ⌝ }
 {
-    if mine & taken { held(f) } else { false }
+    if connected & taken { held(f) } else { false }
 }
 
 fn remains(create: bool, named: bool, n: Filter) -> bool
@@ -104,11 +104,11 @@ fn row_after(
     taken: [bool; PRECEDENCES],
     create: bool,
     named: bool,
-    mine: bool,
+    connected: bool,
     row: [Filter; PLACES],
 ) -> [Filter; PLACES]
     requires { ⌜ taken ≡ tab (takes new) precedenceCount ⌝ }
-    ensures { λ r. ⌜ r ≡ tab (placedIn new create (so named mine) row) placeCount ⌝ }
+    ensures { λ r. ⌜ r ≡ tab (placedIn new create (so named connected) row) placeCount ⌝ }
 {
     let mut s = row;
     for j in 0..PLACES {
@@ -116,7 +116,7 @@ fn row_after(
         let f = row[j];
         let p = f.precedence as usize;
         let took = taken[p];
-        s[j] = placed_at(create, named, in_conflict(took, mine, f), n, f);
+        s[j] = placed_at(create, named, in_conflict(took, connected, f), n, f);
     }
     s
 }
@@ -174,18 +174,18 @@ fn laid_bearer(
     taken: [bool; PRECEDENCES],
     create: bool,
     named: bool,
-    mine: bool,
+    connected: bool,
     b: Bearer,
 ) -> Bearer
     requires { ⌜ taken ≡ tab (takes new) precedenceCount ⌝ }
-    ensures { λ r. ⌜ r ≡ record { role = b .role; transaction = b .transaction; row = tab (placedIn new create (so named mine) (b .row)) placeCount } ⌝ }
+    ensures { λ r. ⌜ r ≡ record { role = b .role; transaction = b .transaction; row = tab (placedIn new create (so named connected) (b .row)) placeCount } ⌝ }
 {
     let role = b.role;
     let row = b.row;
     Bearer {
         role,
         transaction: b.transaction,
-        row: row_after(new, taken, create, named, mine, row),
+        row: row_after(new, taken, create, named, connected, row),
     }
 }
 
@@ -207,8 +207,8 @@ fn laid_table(
         if (i == k) | lost[i] {
             let b = t.bearers[i];
             let role = b.role;
-            let mine = in_connection(i, role, connection);
-            s.bearers[i] = laid_bearer(new, taken, create, i == k, mine, b);
+            let connected = in_connection(i, role, connection);
+            s.bearers[i] = laid_bearer(new, taken, create, i == k, connected, b);
         }
     }
     s

@@ -6,7 +6,7 @@ ghost use lib.ListN.{length};
 ghost use lib.Seq.{sets};
 ghost use Rattle.laws.specs.Lists.{every};
 ghost use Rattle.laws.specs.Says.{pick};
-ghost use Rattle.filter.specs.Coding.{emptyPlace, held};
+ghost use Rattle.filter.specs.Coding.{largestDirection, emptyPlace, held};
 ghost use Rattle.filter.specs.Fittable.{placeFine};
 ghost use Rattle.element.specs.Numbers.{writtenNumber};
 ghost use Rattle.element.specs.Write.{setNumber, bareNumber, entriesFrom, entriesOctets, marksFrom, octetsOf, given, writeOf};
@@ -20,6 +20,7 @@ use crate::fields::contents_size;
 use crate::fields::put_contents;
 use crate::head::ADD;
 use crate::head::CREATE;
+use crate::head::DELETE_FILTERS;
 use crate::head::DELETE_TFT;
 use crate::head::LONGEST;
 use crate::head::NO_OPERATION;
@@ -175,7 +176,7 @@ fn element_size(element: Element) -> usize
 
 // A place of a row into b from `at`; the place after it in b.
 fn put_place(b: &mut [u8], at: usize, identifier: u8, f: Filter) -> usize
-    requires { ⌜ (at + length (placeOctets identifier f) ≤ length (now b)) × (identifier < placeCount) × (held f ≡ true → f .direction ≤ 3) ⌝ }
+    requires { ⌜ (at + length (placeOctets identifier f) ≤ length (now b)) × (identifier < placeCount) × (held f ≡ true → f .direction ≤ largestDirection) ⌝ }
     ensures { λ r. ⌜ (r ≡ at + length (placeOctets identifier f)) × (now (b .exit) ≡ sets (now (b .entry)) at (placeOctets identifier f)) ⌝ }
 {
     if !held(f) {
@@ -238,7 +239,7 @@ fn put_element(b: &mut [u8], element: Element)
             put_row(b, 1, row);
         }
         Answer::Identifiers => {
-            b[0] = 160 + count_marks(marks);
+            b[0] = DELETE_FILTERS * 32 + count_marks(marks);
             put_marks(b, 1, marks);
         }
         Answer::Bare(operation) => {

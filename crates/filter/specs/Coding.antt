@@ -1,4 +1,5 @@
 -- What a filter is by itself.
+use Prim.Native.Nat.{ℕ}
 use mathlib.Core.Bool.{Bool, true, not, _&&_, _||_}
 use lib.Dec.{eqb, leb}
 use Rattle.laws.specs.Lists.{some}
@@ -11,13 +12,17 @@ use Rattle.filter.specs.Component.{largestLabel, typesOf, present}
 unfoldable pub held : Filter → Bool
 held f = some present (typesOf f)
 
+-- "direction at most 3"
+abbrev pub largestDirection : ℕ
+largestDirection = 3
+
 abbrev pub labelFits : Label → Bool
 labelFits noLabel = true
 labelFits (isLabel label) = leb label largestLabel
 
 -- "each filter is well coded (flow label at most 1048575, direction at most 3)"; "Contents hold at least one component"
 unfoldable pub wellCoded : Filter → Bool
-wellCoded f = held f && leb (f .direction) 3 && labelFits (f .label)
+wellCoded f = held f && leb (f .direction) largestDirection && labelFits (f .label)
 
 -- "unused fields are zero": a place that holds no filter has precedence and direction 0
 unfoldable pub emptyPlace : Filter → Bool

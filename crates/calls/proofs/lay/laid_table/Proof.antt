@@ -27,12 +27,12 @@ use Rattle.calls.proofs.lay.laid_table.Statement.{statement}
 use Rattle.calls.proofs.lay.laid_table.Tie as tie
 
 module _ (new : List Filter) (create : Bool) (t : Table) (k connection i : ℕ) where
-  -- what is laid there, `mine` being whether the bearer is of the connection
+  -- what is laid there, `connected` being whether the bearer is of the connection
   abbrev laidAt : Bool → Bearer
-  laidAt mine = bearerWith (roleAt t i) (transactionAt t i) (tab (placedIn new create (so (eqb i k) mine) (bearerAt t i .row)) placeCount)
+  laidAt connected = bearerWith (roleAt t i) (transactionAt t i) (tab (placedIn new create (so (eqb i k) connected) (bearerAt t i .row)) placeCount)
 
-  changes : (b : Bearer) (mine : Bool) → mine ≡ ofConnection t connection i → b ≡ laidAt mine → b ≡ bearerOf (laidView new create t k connection) i
-  changes b mine m e = e ∙ ap laidAt m
+  changes : (b : Bearer) (connected : Bool) → connected ≡ ofConnection t connection i → b ≡ laidAt connected → b ≡ bearerOf (laidView new create t k connection) i
+  changes b connected m e = e ∙ ap laidAt m
 
   stays : (lost : List Bool) → lost ≡ tab (losesAt new create t k connection) bearerCount → TableInRange t → i < bearerCount → eqb i k || getD lost i false ≡ false
       → bearerAt t i ≡ bearerOf (laidView new create t k connection) i

@@ -34,12 +34,12 @@ loop-again c =
     let a = start .args in
     let l = c .before .before .before .before .loop in
     let lost = losesAt (a .new) (a .create) (a .t4) (a .k) (a .connection) in
-    let mine = sym (c .before .in-connection .ensures ∙ ap (λ (role : Role). eqb (connectionOf (l .i) role) (a .connection)) (role-at (a .t4) (a .t5) (start .pre .1) (l .i) (omega arith))) in (
+    let connected = sym (c .before .in-connection .ensures ∙ ap (λ (role : Role). eqb (connectionOf (l .i) role) (a .connection)) (role-at (a .t4) (a .t5) (start .pre .1) (l .i) (omega arith))) in (
       omega arith,
       ⊎-elim
-          (λ w. w .4 ∙ stored-more lost (replicate bearerCount false) (l .i) (l .lost) _ (mine-loses (a .new) (a .create) (a .t4) (a .k) (a .connection) (l .i) _ (mine ∙ w .0 .taken) (w .3 .ensures)) (l .inv .1))
+          (λ w. w .4 ∙ stored-more lost (replicate bearerCount false) (l .i) (l .lost) _ (mine-loses (a .new) (a .create) (a .t4) (a .k) (a .connection) (l .i) _ (connected ∙ w .0 .taken) (w .3 .ensures)) (l .inv .1))
           (λ w. w .1 ∙ stored-skip lost (replicate bearerCount false) false (l .i) (l .lost)
-          (getD-replicate bearerCount (l .i) false false (omega arith) ∙ other-loses (a .new) (a .create) (a .t4) (a .k) (a .connection) (l .i) (mine ∙ w .0 .left)) (l .inv .1))
+          (getD-replicate bearerCount (l .i) false false (omega arith) ∙ other-loses (a .new) (a .create) (a .t4) (a .k) (a .connection) (l .i) (connected ∙ w .0 .left)) (l .inv .1))
           (c .if1 .came),
     )
 

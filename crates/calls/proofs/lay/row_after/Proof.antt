@@ -17,10 +17,10 @@ use Rattle.calls.proofs.lay.row_after.Statement.{statement}
 use Rattle.calls.proofs.lay.row_after.Tie as tie
 
 abbrev Inv-loop : tie.InvT-loop
-Inv-loop create named mine new taken row s₀ j₀ s j = (j ≤ placeCount) × (s ≡ stored (placedIn new create (so named mine) row) s₀ j)
+Inv-loop create named connected new taken row s₀ j₀ s j = (j ≤ placeCount) × (s ≡ stored (placedIn new create (so named connected) row) s₀ j)
 
 abbrev μ-loop : tie.MeasureT-loop
-μ-loop create named mine new taken row s₀ j₀ s j = placeCount - j
+μ-loop create named connected new taken row s₀ j₀ s j = placeCount - j
 
 loop-holds : tie.Need-loop-holds Inv-loop μ-loop
 loop-holds c = (omega arith, stored-start _ _)
@@ -40,9 +40,9 @@ loop-again c =
     let f = inRow (a .t6) (l .j) in
     let fits = each-at (row-in-range (a .t6) _ (start .good .1 .1 .1 .1 .1 .0)) emptyFilter (l .j) (omega arith) .precedence in
     let turn =
-    placed-by (a .t1) (a .create) (a .named) (a .mine) n f _ (c .before .in-conflict .result) (took-is (a .t1) (a .t2) (f .precedence) fits (start .pre))
+    placed-by (a .t1) (a .create) (a .named) (a .connected) n f _ (c .before .in-conflict .result) (took-is (a .t1) (a .t2) (f .precedence) fits (start .pre))
     (c .before .in-conflict .ensures) in
-    (omega arith, stored-more (placedIn (a .t1) (a .create) (so (a .named) (a .mine)) (a .t6)) (a .t6) (l .j) (l .s) _ (c .placed-at .ensures ∙ turn) (l .inv .1))
+    (omega arith, stored-more (placedIn (a .t1) (a .create) (so (a .named) (a .connected)) (a .t6)) (a .t6) (l .j) (l .s) _ (c .placed-at .ensures ∙ turn) (l .inv .1))
 
 returns : tie.Need-returns Inv-loop μ-loop
 returns c =
@@ -50,7 +50,7 @@ returns c =
     let a = start .args in
     let l = c .before .loop in
     let ok = row-in-range (a .t6) _ (start .good .1 .1 .1 .1 .1 .0) in
-    stored-done (placedIn (a .t1) (a .create) (so (a .named) (a .mine)) (a .t6)) (a .t6) emptyFilter (l .j) placeCount _ (ok .count) (omega arith) (omega arith) (l .inv .1)
+    stored-done (placedIn (a .t1) (a .create) (so (a .named) (a .connected)) (a .t6)) (a .t6) emptyFilter (l .j) placeCount _ (ok .count) (omega arith) (omega arith) (l .inv .1)
 
 pub row-after-spec : {M : Type 1} → statement M
 row-after-spec =

@@ -41,6 +41,7 @@ put-element-spec =
     (λ c. omega (arith, rw (c .before .before .before .answer .given .1) at (c .before .before .before .before .before .before .before .before .pre .0)))
     put-row-requires
     (λ c. search needs)
+    (λ c. search needs)
     (λ c κs. search needs)
     (λ c. search needs)
     (λ c. omega (arith, rw (c .before .enum-told .given .1) at (c .before .before .before .before .before .before .pre .0)))
