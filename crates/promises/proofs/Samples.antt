@@ -1,4 +1,4 @@
--- Document 01's sample elements, those marked * and two more: a single list under a single claim about the written definitions, computed; and a
+-- Document 01's sample elements, those marked * and one more: a single list under a single claim about the written definitions, computed; and a
 -- sequence of calls with two routes, computed too.
 -- "Bearer 5 default without TFT; 6 dedicated, linked to 5."
 -- Assumes nothing.
