@@ -2,7 +2,7 @@
 use mathlib.Core.Path.{_≡_, refl, sym, _∙_, subst}
 use mathlib.Core.Bool.{Bool, true, false, not, _&&_, _||_, true≢false, false≢true}
 use mathlib.Core.List.{List, [], _∷_}
-use mathlib.Core.Logic.{_⊎_, inl, inr, ⊎-elim}
+use mathlib.Core.Logic.{_⊎_, inl, inr, ⊎-elim, _↔_}
 use Prim.Native.Nat.{ℕ, zero, suc, _<_, _≤_}
 use native.Mathlib.Nat.{not-suc-le-zero}
 use native.Mathlib.Omega.{arith}
@@ -86,6 +86,26 @@ says-unless {a = false} s r = record { to = λ e _. r .to e; from = λ h. r .fro
 -- a test says that it is true
 pub says-it : (b : Bool) → Says b (b ≡ true)
 says-it b = record { to = λ e. e; from = λ e. e }
+
+-- ---- a number that tests give in turn: n is given by this test alone, or by those after it
+module _ {b : Bool} {P : Type 0} (s : Says b P) {x a n : ℕ} where
+  -- a is given unless P
+  pub unless-here : a ≡ n → (x ≡ n → ⊥) → (pick b x a ≡ n) ↔ (P → ⊥)
+  unless-here e ne =
+      ⊎-elim (λ t. (λ h. absurd (ne (rw t at h)), λ q. absurd (q (s .to t)))) (λ f. (λ h. says-ne s f, λ q. rw f e)) (which b)
+
+  pub unless-later : {Q : Type 0} → (a ≡ n → ⊥) → (x ≡ n) ↔ Q → (pick b x a ≡ n) ↔ (P × Q)
+  unless-later ne q =
+      ⊎-elim (λ t. (λ h. (s .to t, q .0 (rw t at h)), λ h. rw t (q .1 (h .1)))) (λ f. (λ h. absurd (ne (rw f at h)), λ h. absurd (says-ne s f (h .0)))) (which b)
+
+  -- a is given where P
+  pub where-here : a ≡ n → (x ≡ n → ⊥) → (pick b a x ≡ n) ↔ P
+  where-here e ne =
+      ⊎-elim (λ t. (λ h. s .to t, λ q. rw t e)) (λ f. (λ h. absurd (ne (rw f at h)), λ q. absurd (says-ne s f q))) (which b)
+
+  pub where-later : {Q : Type 0} → (a ≡ n → ⊥) → (x ≡ n) ↔ Q → (pick b a x ≡ n) ↔ ((P → ⊥) × Q)
+  where-later ne q =
+      ⊎-elim (λ t. (λ h. absurd (ne (rw t at h)), λ h. absurd (h .0 (s .to t)))) (λ f. (λ h. (says-ne s f, q .0 (rw f at h)), λ h. rw f (q .1 (h .1)))) (which b)
 
 -- another way to say the same
 pub says-so : {a : Bool} {P Q : Type 0} → Says a P → (P → Q) → (Q → P) → Says a Q

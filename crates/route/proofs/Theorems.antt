@@ -9,7 +9,7 @@ use native.Mathlib.Omega.{arith}
 use lib.ListN.{length, getD}
 use Rattle.laws.specs.Says.{pick, Says}
 use Rattle.laws.specs.Index.{SomeBelow}
-use Rattle.laws.proofs.Says.{which, never, says-it, says-eq, says-no, says-ne, says-any}
+use Rattle.laws.proofs.Says.{which, never, picked, says-it, says-eq, says-no, says-ne, says-any, unless-here, unless-later, where-here}
 use Rattle.filter.specs.declared.packet.Header.{Header}
 use Rattle.filter.specs.Fit.{fits, validHeader}
 use Rattle.table.specs.declared.bearer.Table.{Table}
@@ -17,7 +17,7 @@ use Rattle.filter.specs.Sizes.{placeCount}
 use Rattle.table.specs.Bearers.{indexOf, identityOf, bearerAt, filterAt, isDefault, roleOf}
 use Rattle.table.specs.Ranges.{TableInRange}
 use Rattle.table.specs.WellFormed.{wellFormed, WellFormed}
-use Rattle.table.proofs.Meaning.{well-says}
+use Rattle.table.proofs.Meaning.{default-of, well-says}
 use Rattle.route.specs.declared.answer.Route.{Route}
 use Rattle.route.specs.declared.answer.Route.the-variants.{Bearer, Discard}
 use Rattle.route.specs.declared.answer.Refusal.the-variants.{NotWellFormed, NoDefault, InvalidHeader}
@@ -25,8 +25,8 @@ use Rattle.route.specs.declared.answer.Answer.the-variants.{Routed, Refu
 use Rattle.route.specs.declared.list.Entry.{Entry}
 use Rattle.route.specs.Lists.{isUplink, precedenceAt, entryOf, nothing, entriesOf, listOf}
 use Rattle.route.specs.Positions.{Stands}
-use Rattle.route.specs.Routes.{filterOf, entryFits, firstFit, uplinkAt, hasUplink, otherwiseOf, routeOn, routeOf}
-use Rattle.route.specs.Rule.{Fitting, NoneFits, Right, byFilter, byDefault, discarded}
+use Rattle.route.specs.Routes.{numberOf, filterOf, entryFits, firstFit, uplinkAt, hasUplink, otherwiseOf, routeOn, routeOf}
+use Rattle.route.specs.Rule.{Fitting, NoneFits, Right, byFilter, byDefault, discarded, RouteNumbered}
 use Rattle.route.proofs.Listing.{entries-length, list-stands, same-place, position, list-at}
 
 -- ---- the first position that fits, over any list
@@ -129,17 +129,29 @@ right-one t w default h r s (discarded n j o e) (discarded m k q f) = e ∙ sym 
 
 -- ---- what a call gives
 module _ (t : Table) (default : ℕ) (h : Header) where
-  pub route-refused-1 : wellFormed t ≡ false → routeOf t default h ≡ Refused NotWellFormed
-  unfolding routeOf
-  route-refused-1 e = rw e
+  -- the number, by the tests in turn
+  number-by : (w d v : Bool) (route : Route)
+      → numberOf (pick w (pick d (pick v (Routed route) (Refused InvalidHeader)) (Refused NoDefault)) (Refused NotWellFormed)) ≡ pick w (pick d (pick v 0 2) 8) 1
+  number-by true true true route = refl
+  number-by true true false route = refl
+  number-by true false v route = refl
+  number-by false d v route = refl
 
-  pub route-refused-8 : wellFormed t ≡ true → isDefault (roleOf t default) ≡ false → routeOf t default h ≡ Refused NoDefault
+  pub route-numbers : TableInRange t → RouteNumbered t default h (numberOf (routeOf t default h))
   unfolding routeOf
-  route-refused-8 e d = rw (e, d)
-
-  pub route-refused-2 : wellFormed t ≡ true → isDefault (roleOf t default) ≡ true → validHeader h ≡ false → routeOf t default h ≡ Refused InvalidHeader
-  unfolding routeOf
-  route-refused-2 e d v = rw (e, d, v)
+  route-numbers ok =
+      let w = well-says t ok in
+      let d = default-of t default in
+      let v = says-it (validHeader h) in
+      subst (RouteNumbered t default h) (sym (number-by (wellFormed t) (isDefault (roleOf t default)) (validHeader h) (routeOn t default h (listOf t default))))
+      (record {
+        is1 = unless-here w refl
+            (picked (λ (k : ℕ). k ≡ 1 → ⊥) (isDefault (roleOf t default)) _ 8 (picked (λ (k : ℕ). k ≡ 1 → ⊥) (validHeader h) 0 2 (λ e. omega arith) (λ e. omega arith))
+            (λ e. omega arith));
+        is8 = unless-later w (λ e. omega arith) (unless-here d refl (picked (λ (k : ℕ). k ≡ 8 → ⊥) (validHeader h) 0 2 (λ e. omega arith) (λ e. omega arith)));
+        is2 = unless-later w (λ e. omega arith) (unless-later d (λ e. omega arith) (unless-here v refl (λ e. omega arith)));
+        is0 = unless-later w (λ e. omega arith) (unless-later d (λ e. omega arith) (where-here v refl (λ e. omega arith)));
+      })
 
   -- otherwise it gives a route exactly where the route is right
   module _ (ok : TableInRange t) (e : wellFormed t ≡ true) (d : isDefault (roleOf t default) ≡ true) (v : validHeader h ≡ true) where

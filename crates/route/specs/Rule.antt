@@ -3,11 +3,13 @@
 use Prim.Native.Nat.{ℕ, _<_, _≤_}
 use mathlib.Core.Bool.{true}
 use mathlib.Core.Path.{_≡_}
+use mathlib.Core.Logic.{_↔_}
 use Rattle.filter.specs.declared.packet.Header.{Header}
-use Rattle.filter.specs.Fit.{fits}
+use Rattle.filter.specs.Fit.{validHeader, fits}
 use Rattle.table.specs.declared.bearer.Table.{Table}
 use Rattle.filter.specs.Sizes.{placeCount}
-use Rattle.table.specs.Bearers.{indexOf, identityOf, filterAt}
+use Rattle.table.specs.Bearers.{indexOf, identityOf, roleAt, filterAt}
+use Rattle.table.specs.WellFormed.{ActiveDefault, WellFormed}
 use Rattle.route.specs.declared.answer.Route.{Route}
 use Rattle.route.specs.declared.answer.Route.the-variants.{Bearer, Discard}
 use Rattle.route.specs.Lists.{isUplink, precedenceAt}
@@ -36,3 +38,12 @@ module _ (t : Table) where
     byFilter : (i j : ℕ) → Least default h i j → r ≡ Bearer (identityOf i) → Right default h r
     byDefault : NoneFits default h → ((j : ℕ) → OwnUplink default j → ⊥) → r ≡ Bearer default → Right default h r
     discarded : NoneFits default h → (j : ℕ) → OwnUplink default j → r ≡ Discard → Right default h r
+
+-- ---- "Route: 1, 8, 2.": each number is given exactly where its test refuses, and none before it
+pub record RouteNumbered (t : Table) (default : ℕ) (h : Header) (number : ℕ) : Type 0 where
+  pub is1 : (number ≡ 1) ↔ (WellFormed t → ⊥)
+  -- "not an active default"
+  pub is8 : (number ≡ 8) ↔ (WellFormed t × (ActiveDefault (roleAt t) default → ⊥))
+  -- "header version not 4 or 6, or version 6 label above 1048575"
+  pub is2 : (number ≡ 2) ↔ (WellFormed t × (ActiveDefault (roleAt t) default × (validHeader h ≡ true → ⊥)))
+  pub is0 : (number ≡ 0) ↔ (WellFormed t × (ActiveDefault (roleAt t) default × (validHeader h ≡ true)))

@@ -22,7 +22,7 @@ use Rattle.filter.specs.Sizes.{placeCount}
 use Rattle.filter.specs.Build.{emptyFilter}
 use Rattle.table.specs.Bearers.{firstIdentity, lastIdentity, bearerCount, lastTransaction, isIdentity, indexOf, identityOf, noBearer, roleAt, transactionAt, filterAt, connectionOf, connectionAt, isIdle, isDefault, isDedicated, roleOf}
 use Rattle.table.specs.Ranges.{TableInRange}
-use Rattle.table.specs.WellFormed.{linkFine, filterFine, bearerFine, transactionsApart, transactionFrom, distinctTransactions, distinctAt, distinctPrecedences, wellFormed, Held, WellFormed}
+use Rattle.table.specs.WellFormed.{linkFine, filterFine, bearerFine, transactionsApart, transactionFrom, distinctTransactions, distinctAt, distinctPrecedences, wellFormed, Held, ActiveDefault, WellFormed}
 use Rattle.table.proofs.Within.{Within, within-says}
 
 -- no two roles are one
@@ -81,29 +81,29 @@ place-says f r = record { to = λ e. ⊎-elim nothing something (either (emptyPl
     from h (inr e) = rw (empty-says f .from (h .zeroed (λ q. never q e)))
 
 -- ---- the table
+-- an identity whose role is default is in range
+pub default-of : (t : Table) (identity : ℕ) → Says (isDefault (roleOf t identity)) (ActiveDefault (roleAt t) identity)
+default-of t identity = go (isIdentity identity) refl
+  where
+    go : (b : Bool) → isIdentity identity ≡ b → Says (isDefault (pick b (roleAt t (indexOf identity)) Idle)) (ActiveDefault (roleAt t) identity)
+    go true e =
+        let r = range-says identity .to e in
+        says-so (default-says (roleAt t (indexOf identity))) (λ d. (r .0, r .1, d)) (λ h. h .2)
+    go false e = record { to = λ q. absurd (false≢true q); from = λ h. absurd (false≢true (sym e ∙ range-says identity .from (h .0, h .1))) }
+
 module _ (t : Table) (ok : TableInRange t) where
   filter-ok : (i j : ℕ) → i < bearerCount → j < placeCount → FilterInRange (filterAt t i j)
   filter-ok i j l m = each-at (each-at (ok .bearers) noBearer i l .row) emptyFilter j m
 
   abbrev Linked : Role → Type 0
-  Linked r = (link : ℕ) → r ≡ Dedicated link → (firstIdentity ≤ link) × (link ≤ lastIdentity) × (roleAt t (indexOf link) ≡ Default)
-
-  -- an identity whose role is default is in range
-  default-of : (link : ℕ) → Says (isDefault (roleOf t link)) ((firstIdentity ≤ link) × (link ≤ lastIdentity) × (roleAt t (indexOf link) ≡ Default))
-  default-of link = go (isIdentity link) refl
-    where
-      go : (b : Bool) → isIdentity link ≡ b → Says (isDefault (pick b (roleAt t (indexOf link)) Idle)) ((firstIdentity ≤ link) × (link ≤ lastIdentity) × (roleAt t (indexOf link) ≡ Default))
-      go true e =
-          let r = range-says link .to e in
-          says-so (default-says (roleAt t (indexOf link))) (λ d. (r .0, r .1, d)) (λ h. h .2)
-      go false e = record { to = λ q. absurd (false≢true q); from = λ h. absurd (false≢true (sym e ∙ range-says link .from (h .0, h .1))) }
+  Linked r = (link : ℕ) → r ≡ Dedicated link → ActiveDefault (roleAt t) link
 
   link-says : (r : Role) → Says (linkFine t r) (Linked r)
   link-says Idle = says-true (λ link e. unlike (cc))
   link-says Default = says-true (λ link e. unlike (cc))
   link-says (Dedicated link) =
-      says-so (default-of link)
-      (λ h other e. let q : link ≡ other = cc in subst (λ (y : ℕ). (firstIdentity ≤ y) × (y ≤ lastIdentity) × (roleAt t (indexOf y) ≡ Default)) q h)
+      says-so (default-of t link)
+      (λ h other e. let q : link ≡ other = cc in subst (ActiveDefault (roleAt t)) q h)
       (λ h. h link refl)
 
   -- what the test says of one bearer

@@ -79,13 +79,16 @@ wellFormed t = allBelow (bearerFine t) bearerCount && distinctTransactions t && 
 abbrev pub Held : Filter → Type 0
 Held f = held f ≡ true
 
+-- the identity is that of an active default
+abbrev pub ActiveDefault : (ℕ → Role) → ℕ → Type 0
+ActiveDefault role identity = (firstIdentity ≤ identity) × (identity ≤ lastIdentity) × (role (indexOf identity) ≡ Default)
+
 pub record Well (v : View) : Type 0 where
   -- an idle bearer has no transaction and holds nothing
   pub silent : (i : ℕ) → i < bearerCount → v .role i ≡ Idle → v .transaction i ≡ 0
   pub empty : (i j : ℕ) → i < bearerCount → j < placeCount → v .role i ≡ Idle → v .filter i j ≡ emptyFilter
   -- a dedicated bearer is linked to an active default
-  pub linked : (i link : ℕ) → i < bearerCount → v .role i ≡ Dedicated link
-      → (firstIdentity ≤ link) × (link ≤ lastIdentity) × (v .role (indexOf link) ≡ Default)
+  pub linked : (i link : ℕ) → i < bearerCount → v .role i ≡ Dedicated link → ActiveDefault (v .role) link
   -- transactions are at most 254, and each is open on one bearer
   pub small : (i : ℕ) → i < bearerCount → v .transaction i ≤ lastTransaction
   pub single : (i k : ℕ) → i < bearerCount → k < bearerCount → (v .transaction i ≡ 0 → ⊥) → v .transaction i ≡ v .transaction k → i ≡ k
