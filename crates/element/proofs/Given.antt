@@ -1,22 +1,20 @@
--- What the reader can give: filters that fit no packet are refused as such, and every operation read is one that the writer takes.
-use mathlib.Core.Path.{_≡_, refl, sym, _∙_, ap, subst}
-use mathlib.Core.Bool.{Bool, true, false, not, _&&_, false≢true}
-use mathlib.Core.Logic.{inl, inr}
+-- What the reader can give: every operation read is one that the writer takes.
+use mathlib.Core.Path.{_≡_, refl, _∙_}
+use mathlib.Core.Bool.{Bool, true, false, not, _&&_}
 use mathlib.Core.List.{List, [], _∷_, map}
-use Prim.Native.Nat.{ℕ, _%_, _≤_, _<_}
+use Prim.Native.Nat.{ℕ, _%_, _<_}
 use native.Mathlib.Omega.{arith}
 use lib.Dec.{leb}
 use lib.ListN.{length, getD, set, length-set}
-use borrow.Author.Tests.{le-leb, leb-true, not-true}
+use borrow.Author.Tests.{le-leb, not-true}
 use Rattle.laws.specs.Says.{pick}
-use Rattle.laws.specs.Lists.{every, All, Some, Each, repeats}
+use Rattle.laws.specs.Lists.{every, All, Each, repeats}
 use Rattle.laws.proofs.Lists.{all-set, each-replicate}
 use Rattle.laws.proofs.Tests.{both, or-right}
 use Rattle.filter.specs.declared.component.Filter.{Filter}
 use Rattle.filter.specs.Coding.{held, wellCoded, emptyPlace}
 use Rattle.filter.specs.Ranges.{FilterInRange}
 use Rattle.filter.proofs.Ranges.{nothing-in-range}
-use Rattle.filter.proofs.Theorems.{fittable-says}
 use Rattle.filter.specs.Fittable.{placeFine}
 use Rattle.element.specs.declared.answer.SetOperation.{SetOperation}
 use Rattle.element.specs.declared.answer.Cause.the-variants.{Operation, Semantics, Coding}
@@ -26,89 +24,12 @@ use Rattle.element.specs.Numbers.{numberOf}
 use Rattle.filter.specs.Sizes.{placeCount}
 use Rattle.filter.specs.Build.{emptyFilter}
 use Rattle.element.specs.Read.{noFilters, noMarks, withoutSets, refused, Entry, precedenceOf, entryFittable, Entries, badly, coded, entriesOf, twice, inPlaces, filterSet, marked, identifierSet, judgedEntries, judgedFrame, readValue, readElement}
-use Rattle.element.specs.Framing.{Raw, Framed, notFramed, filters, identifiers, bare, framedOf}
+use Rattle.element.specs.Framing.{Framed, notFramed, filters, identifiers, bare, framedOf}
 use Rattle.element.specs.Write.{entriesFrom, oneToFifteen, rowGiven, marksFrom, marksGiven, given}
-use Rattle.element.specs.Meaning.{Octet, ElementInRange, NoPacketFits, SomeFilterUnfit}
+use Rattle.element.specs.Meaning.{Octet, ElementInRange}
 use Rattle.element.proofs.Decoded.{well-coded, EntryDecoded, OneTo15, FramedInto, framed-into, EntriesInto, entries-into}
+use Rattle.element.proofs.Causes.{some-number}
 use Rattle.element.proofs.Laid.{precedences, entries-precedences, entries-count, distinct, laid-first, laid-every, marked-few, marked-some}
-
--- ---- The reader refuses with the cause of step 8 exactly where a filter, all being well coded, fits no packet.
-some-unfit : (es : List Entry) → All EntryDecoded es → every entryFittable es ≡ false → Some NoPacketFits es
-unfolding every
-some-unfit [] d q = absurd (false≢true (sym q))
-some-unfit (e ∷ es) d q = go (entryFittable e) refl (some-unfit es (d .1))
-  where
-    go : (b : Bool) → entryFittable e ≡ b → (every entryFittable es ≡ false → Some NoPacketFits es) → Some NoPacketFits (e ∷ es)
-    go true f rest = inr (rest (ap (λ (b : Bool). b && every entryFittable es) (sym f) ∙ q))
-    go false f rest = inl (λ s. false≢true (sym f ∙ fittable-says (e .filter) (d .0 .filter .sound .inRange) .from s))
-
-not-every : (es : List Entry) → All EntryDecoded es → Some NoPacketFits es → every entryFittable es ≡ false
-unfolding every
-not-every (e ∷ es) d (inl u) = go (entryFittable e) refl
-  where
-    go : (b : Bool) → entryFittable e ≡ b → b && every entryFittable es ≡ false
-    go true f = absurd (u (fittable-says (e .filter) (d .0 .filter .sound .inRange) .to f))
-    go false f = refl
-not-every (e ∷ es) d (inr u) = rw (not-every es (d .1) u) (and-false (entryFittable e))
-  where
-    and-false : (b : Bool) → b && false ≡ false
-    and-false true = refl
-    and-false false = refl
-
--- an element whose answer has another number is not that refusal
-another : (e : Element) (n : ℕ) → numberOf (e .answer) ≡ n → (n ≡ 44 → ⊥) → e ≡ refused Semantics → ⊥
-another e n a l q = l (sym a ∙ ap (λ (e : Element). numberOf (e .answer)) q)
-
-module _ (xs : List ℕ) (octets : All Octet xs) where
-  framed-raws : (operation : SetOperation) (rs : List Raw) → framedOf xs ≡ filters operation rs → FramedInto (filters operation rs)
-  framed-raws operation rs q = subst FramedInto q (framed-into xs octets)
-
-  decoded-entries : (operation : SetOperation) (rs : List Raw) (es : List Entry) → framedOf xs ≡ filters operation rs → entriesOf rs ≡ coded es
-      → EntriesInto (length rs) (coded es)
-  decoded-entries operation rs es q p = subst (EntriesInto (length rs)) p (entries-into rs (framed-raws operation rs q .1))
-
-  module _ (short : length xs ≤ 255) (operation : SetOperation) (rs : List Raw) (framed : framedOf xs ≡ filters operation rs) where
-    entries-say : (E : Entries) → entriesOf rs ≡ E → judgedEntries operation E ≡ refused Semantics → SomeFilterUnfit xs
-    entries-say badly p q = absurd (another (refused Coding) 45 refl (λ e. omega arith) q)
-    entries-say (coded es) p q = go (every entryFittable es) refl (twice es) q
-      where
-        go : (b : Bool) → every entryFittable es ≡ b → (c : Bool) → pick b (pick c (refused Coding) (filterSet operation es)) (refused Semantics) ≡ refused Semantics
-            → SomeFilterUnfit xs
-        go true f true q = absurd (another (refused Coding) 45 refl (λ e. omega arith) q)
-        go true f false q = absurd (another (filterSet operation es) 0 refl (λ e. omega arith) q)
-        go false f c q =
-            record {
-              short = short;
-              operation = operation;
-              raws = rs;
-              framed = framed;
-              entries = es;
-              wellCoded = p;
-              unfit = some-unfit es (decoded-entries operation rs es framed p .1) f;
-            }
-
-  frame-says : length xs ≤ 255 → (F : Framed) → framedOf xs ≡ F → judgedFrame F ≡ refused Semantics → SomeFilterUnfit xs
-  frame-says short notFramed p q = absurd (another (refused Operation) 42 refl (λ e. omega arith) q)
-  frame-says short (filters operation rs) p q = entries-say short operation rs p (entriesOf rs) refl q
-  frame-says short (identifiers ys) p q = absurd (another (judgedFrame (identifiers ys)) 0 refl (λ e. omega arith) q)
-  frame-says short (bare operation) p q = absurd (another (judgedFrame (bare operation)) 0 refl (λ e. omega arith) q)
-
-  element-says : readElement xs ≡ refused Semantics → SomeFilterUnfit xs
-  unfolding readElement readValue
-  element-says = go (leb (length xs) 255) refl
-    where
-      go : (b : Bool) → leb (length xs) 255 ≡ b → pick b (readValue xs) (refused Operation) ≡ refused Semantics → SomeFilterUnfit xs
-      go true l q = frame-says (leb-true (length xs) 255 l) (framedOf xs) refl q
-      go false l q = absurd (another (refused Operation) 42 refl (λ e. omega arith) q)
-
-  unfit-refused : SomeFilterUnfit xs → readElement xs ≡ refused Semantics
-  unfolding readElement readValue
-  unfit-refused s =
-      let d = decoded-entries (s .operation) (s .raws) (s .entries) (s .framed) (s .wellCoded) in
-      rw (le-leb (length xs) 255 (s .short), s .framed, s .wellCoded, not-every (s .entries) (d .1) (s .unfit))
-
-pub semantics-says : (xs : List ℕ) → All Octet xs → (readElement xs ≡ refused Semantics → SomeFilterUnfit xs) × (SomeFilterUnfit xs → readElement xs ≡ refused Semantics)
-semantics-says xs octets = (element-says xs octets, unfit-refused xs octets)
 
 -- ---- Every operation read is one that the writer takes.
 some-not-all : (n : ℕ) → OneTo15 n → oneToFifteen n ≡ true
@@ -163,20 +84,20 @@ identifiers-given xs n =
 
 module _ (n : ℕ) (count : OneTo15 n) (operation : SetOperation) where
   entries-given : (E : Entries) → EntriesInto n E → numberOf (judgedEntries operation E .answer) ≡ 0 → given (judgedEntries operation E) ≡ true
-  entries-given badly d q = absurd (let z : _≡_ {A = ℕ} 45 0 = q in omega arith)
+  entries-given badly d q = some-number Coding q
   entries-given (coded es) d q = go (every entryFittable es) refl (twice es) refl q
     where
       judged : Bool → Bool → Element
       judged f t = pick f (pick t (refused Coding) (filterSet operation es)) (refused Semantics)
 
       go : (f : Bool) → every entryFittable es ≡ f → (t : Bool) → twice es ≡ t → numberOf (judged f t .answer) ≡ 0 → given (judged f t) ≡ true
-      go true f true t q = absurd (let z : _≡_ {A = ℕ} 45 0 = q in omega arith)
+      go true f true t q = some-number Coding q
       go true f false t q = filters-given operation es (rw (d .0) count) (d .1) f t
-      go false f t u q = absurd (let z : _≡_ {A = ℕ} 44 0 = q in omega arith)
+      go false f t u q = some-number Semantics q
 
 frame-given : (F : Framed) → FramedInto F → numberOf (judgedFrame F .answer) ≡ 0 → given (judgedFrame F) ≡ true
 unfolding given
-frame-given notFramed h q = absurd (let z : _≡_ {A = ℕ} 42 0 = q in omega arith)
+frame-given notFramed h q = some-number Operation q
 frame-given (filters operation rs) h q = entries-given (length rs) (h .0) operation (entriesOf rs) (entries-into rs (h .1)) q
 frame-given (identifiers xs) h q = identifiers-given xs h
 frame-given (bare operation) h q = rw (none-held, none-marked)
@@ -202,7 +123,7 @@ element-given xs octets = go (leb (length xs) 255)
   where
     go : (b : Bool) → numberOf (pick b (readValue xs) (refused Operation) .answer) ≡ 0 → given (pick b (readValue xs) (refused Operation)) ≡ true
     go true q = reads-given xs octets q
-    go false q = absurd (let z : _≡_ {A = ℕ} 42 0 = q in omega arith)
+    go false q = some-number Operation q
 
 -- ---- What is read is in the ranges of the code's types.
 none-in-range : Each FilterInRange placeCount noFilters

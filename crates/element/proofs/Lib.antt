@@ -14,6 +14,8 @@ mod Rows
 mod Surveys
 mod RoundContents
 mod RoundTrip
+mod Ordered
 mod Decoded
 mod Laid
+mod Causes
 pub mod Given

@@ -55,7 +55,7 @@ read-component f c v k l e s x rest =
     rw (k, x, take-at v rest w l, e, s, x) p
 
 -- the values: two numbers of w octets each
-pair-long : (w x y : ℕ) → length (beBytes w x ++ beBytes w y) ≡ w + w
+pub pair-long : (w x y : ℕ) → length (beBytes w x ++ beBytes w y) ≡ w + w
 pair-long w x y = simp (length-append, length-be)
 
 pair-first : (w x y : ℕ) → x < 2 ^ (8 * w) → beOf (take w (beBytes w x ++ beBytes w y)) ≡ x
@@ -66,6 +66,9 @@ pair-second w x y h = rw (drop-at (beBytes w x) (beBytes w y) w (length-be w x))
 
 address-long : (a : Address) → length (addressBytes a) ≡ 16
 address-long a = pair-long 8 (a .high) (a .low)
+
+pub addresses-long : (a mask : Address) → length (addressBytes a ++ addressBytes mask) ≡ 32
+addresses-long a mask = simp (length-append, length-be)
 
 address-round : (a : Address) → AddressInRange a → addressOf (addressBytes a) ≡ a
 address-round a r = rw (pair-first 8 (a .high) (a .low) (r .high), pair-second 8 (a .high) (a .low) (r .low))
@@ -107,7 +110,7 @@ module _ (precedence direction : ℕ) where
       read-component _ (ipv4Remote a mask) (beBytes 4 a ++ beBytes 4 mask) refl (pair-long 4 a mask)
       (rw (pair-first 4 a mask (h .0), pair-second 4 a mask (h .1))) refl refl
   at-address (V6 a mask) h =
-      read-component _ (ipv6Remote a mask) (addressBytes a ++ addressBytes mask) refl (simp (length-append, length-be))
+      read-component _ (ipv6Remote a mask) (addressBytes a ++ addressBytes mask) refl (addresses-long a mask)
       (rw (take-at (addressBytes a) (addressBytes mask) 16 (address-long a), drop-at (addressBytes a) (addressBytes mask) 16 (address-long a))
       (ap₂ ipv6Remote (address-round a (h .0)) (address-round mask (h .1)))) refl refl
 

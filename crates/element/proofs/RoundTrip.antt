@@ -41,7 +41,7 @@ record Good (e : Entry) : Type 0 where
   fits : entryFittable e ≡ true
   below : e .identifier < placeCount
 
-abbrev rawOf : Entry → Raw
+abbrev pub rawOf : Entry → Raw
 rawOf e =
     record {
       first = e .filter .direction * 16 + e .identifier;
@@ -183,16 +183,16 @@ set-framed Replace n xs = refl
 
 -- ---- what "could be given" says
 -- at least one and at most 15
-record Counted (n : ℕ) : Type 0 where
+pub record Counted (n : ℕ) : Type 0 where
   some : 1 ≤ n
   few : n ≤ 15
 
-counted : (n : ℕ) → oneToFifteen n ≡ true → Counted n
+pub counted : (n : ℕ) → oneToFifteen n ≡ true → Counted n
 counted n e =
     let h = both (leb 1 n) (leb n 15) e in
     record { some = leb-true 1 n (h .0); few = leb-true n 15 (h .1) }
 
-filters-framed : (operation : SetOperation) (es : List Entry) → Counted (length es)
+pub filters-framed : (operation : SetOperation) (es : List Entry) → Counted (length es)
     → framedOf ((setNumber operation * 32 + length es) ∷ entriesOctets es) ≡ filters operation (map rawOf es)
 unfolding restFits
 filters-framed operation es c =
@@ -200,18 +200,18 @@ filters-framed operation es c =
     ∙ set-framed operation (length es) (entriesOctets es)
     ∙ rw (ne-eqb (length es) 0 (λ e. omega arith), split-round es)
 
-marks-framed : (xs : List ℕ) → Counted (length xs) → framedOf ((5 * 32 + length xs) ∷ xs) ≡ identifiers xs
+pub marks-framed : (xs : List ℕ) → Counted (length xs) → framedOf ((5 * 32 + length xs) ∷ xs) ≡ identifiers xs
 unfolding restFits framedBy
 marks-framed xs c =
     first-octet 5 (length xs) xs (omega arith)
     ∙ rw (ne-eqb (length xs) 0 (λ e. omega arith), le-leb (length xs) (length xs) (omega arith), drop-length xs, take-length xs)
 
-record RowGiven (row : List Filter) : Type 0 where
-  count : Counted (length (entriesFrom 0 row))
+pub record RowGiven (row : List Filter) : Type 0 where
+  pub count : Counted (length (entriesFrom 0 row))
   held : Row 0 row (entriesFrom 0 row)
   precedences : repeats (map precedenceOf (entriesFrom 0 row)) ≡ false
 
-row-given : (row : List Filter) → Each FilterInRange placeCount row → rowGiven row ≡ true → RowGiven row
+pub row-given : (row : List Filter) → Each FilterInRange placeCount row → rowGiven row ≡ true → RowGiven row
 unfolding rowGiven
 row-given row r e =
     let es = entriesFrom 0 row in

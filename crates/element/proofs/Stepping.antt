@@ -11,7 +11,6 @@ use Rattle.laws.specs.Says.{pick}
 use Rattle.laws.specs.Lists.{All, every, fold}
 use Rattle.filter.specs.declared.component.Filter.{Filter as PacketFilter}
 use Rattle.element.specs.declared.answer.SetOperation.{SetOperation}
-use Rattle.element.specs.declared.answer.Cause.{Cause}
 use Rattle.element.specs.declared.answer.Cause.the-variants.{Operation, Semantics, Coding}
 use Rattle.element.specs.declared.answer.Refusal.{Refusal}
 use Rattle.element.specs.declared.answer.Answer.{Answer}
@@ -21,10 +20,11 @@ use Rattle.element.specs.declared.contents.Coded.{Coded}
 use Rattle.element.specs.declared.contents.Coded.the-variants.{Badly, Well}
 use Rattle.element.specs.declared.entries.Handed.{Handed}
 use Rattle.element.specs.declared.entries.Handed.the-variants.{Filter, Identifier, Refused, End}
-use Rattle.element.specs.Numbers.{causeNumber, numberOf, verdictOn, handedNumber}
+use Rattle.element.specs.Numbers.{numberOf, verdictOn, handedNumber}
 use Rattle.element.specs.Framing.{Raw, identifierIn, identifierOf, Framed, notFramed, filters, identifiers, bare, framedOf}
 use Rattle.element.specs.Read.{noFilters, noMarks, refused, Entry, entryFittable, codedOf, Entries as DecodedEntries, badly, coded, withEntry, entriesOf, twice, inPlaces, filterSet, marked, judgedEntries, judgedFrame, readValue, readElement}
 use Rattle.element.specs.Entries.{Located, codedFilter, locatedFilter, locatedFilters, locatedIdentifiers, locatedIn, locatedOf, handedOut, nthBy, nthOf, firstOffsetBy, firstOffset, causeIn, locatedAt, lookAt, afterAt, afterAll, IsEntry, Shows, StepsThrough, emptySets, setsOf, laidInto, HandsOutAll, HandsOutCause, Everywhere}
+use Rattle.element.proofs.Causes.{some-number}
 use Rattle.element.proofs.Offsets.{nothingAt, nothing-there, Chained, placed-chained, nothing-before}
 
 -- ---- Each entry is handed out at its offset, and the next one at the offset after it
@@ -134,20 +134,20 @@ record HandsFrame (F : Framed) (hs : List Handed) : Type 0 where
 
 module _ (operation : SetOperation) (rs : List Raw) where
   entries-hand : (hs : List Handed) (E : DecodedEntries) → entriesOf rs ≡ E → HandedAs hs E → numberOf (judgedEntries operation E .answer) ≡ 0 → HandsFrame (filters operation rs) hs
-  entries-hand hs badly e h q = absurd (let z : _≡_ {A = ℕ} 45 0 = q in omega arith)
+  entries-hand hs badly e h q = some-number Coding q
   entries-hand hs (coded es) e h q = rw h (record { entries = filters-entries es; sets = rw e (go (every entryFittable es) (twice es) q) })
     where
       judged : Bool → Bool → Element
       judged b c = pick b (pick c (refused Coding) (filterSet operation es)) (refused Semantics)
 
       go : (b c : Bool) → numberOf (judged b c .answer) ≡ 0 → fold laidInto emptySets (handed es) ≡ setsOf (judged b c)
-      go true true q = absurd (let z : _≡_ {A = ℕ} 45 0 = q in omega arith)
+      go true true q = some-number Coding q
       go true false q = filters-lay es noFilters noMarks
-      go false c q = absurd (let z : _≡_ {A = ℕ} 44 0 = q in omega arith)
+      go false c q = some-number Semantics q
 
 frame-hands : (F : Framed) → numberOf (judgedFrame F .answer) ≡ 0 → HandsFrame F (map (λ p. p .entry) (locatedIn F))
 unfolding fold
-frame-hands notFramed q = absurd (let z : _≡_ {A = ℕ} 42 0 = q in omega arith)
+frame-hands notFramed q = some-number Operation q
 frame-hands (filters operation rs) q = entries-hand operation rs _ (entriesOf rs) refl (filters-handed 1 rs) q
 frame-hands (identifiers xs) q = rw (identifiers-handed 1 xs) (record { entries = identifiers-entries xs; sets = identifiers-lay xs noFilters noMarks })
 frame-hands (bare operation) q = record { entries = tt; sets = refl }
@@ -162,12 +162,7 @@ no-cause : (a : Answer) → numberOf a ≡ 0 → NoCause a
 no-cause (Filters operation) q = record { start = refl; nth = λ hs n. refl }
 no-cause Identifiers q = record { start = refl; nth = λ hs n. refl }
 no-cause (Bare operation) q = record { start = refl; nth = λ hs n. refl }
-no-cause (refusedWith refusal) q = absurd (go (refusal .cause) q)
-  where
-    go : (c : Cause) → causeNumber c ≡ 0 → ⊥
-    go Operation q = let z : _≡_ {A = ℕ} 42 0 = q in omega arith
-    go Semantics q = let z : _≡_ {A = ℕ} 44 0 = q in omega arith
-    go Coding q = let z : _≡_ {A = ℕ} 45 0 = q in omega arith
+no-cause (refusedWith refusal) q = some-number (refusal .cause) q
 
 module _ (s : List ℕ) where
   judged : numberOf (readElement s .answer) ≡ 0 → readElement s ≡ judgedFrame (framedOf s)
@@ -177,7 +172,7 @@ module _ (s : List ℕ) where
       go : (b : Bool) → numberOf (pick b (judgedFrame (framedOf s)) (refused Operation) .answer) ≡ 0
           → pick b (judgedFrame (framedOf s)) (refused Operation) ≡ judgedFrame (framedOf s)
       go true q = refl
-      go false q = absurd (let z : _≡_ {A = ℕ} 42 0 = q in omega arith)
+      go false q = some-number Operation q
 
   pub hands-out-all : numberOf (readElement s .answer) ≡ 0 → HandsOutAll s
   unfolding firstOffset locatedOf handedOut

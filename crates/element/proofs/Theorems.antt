@@ -1,15 +1,17 @@
 -- The theorems of the layer.
-use mathlib.Core.Path.{_≡_, refl, _∙_, ap}
+use mathlib.Core.Path.{_≡_, refl, _∙_, ap, subst}
 use mathlib.Core.Bool.{Bool, true, false, false≢true}
-use mathlib.Core.List.{List, [], _∷_, _++_}
-use mathlib.Core.Logic.{_⊎_, inl, inr}
-use Prim.Native.Nat.{ℕ}
+use mathlib.Core.List.{List, [], _∷_}
+use mathlib.Core.Logic.{_⊎_, inl, inr, _↔_}
+use Prim.Native.Nat.{ℕ, _≤_, _<_}
 use native.Mathlib.Omega.{arith}
 use lib.Dec.{eqb, leb}
 use lib.ListN.{length, take, drop}
 use lib.Seq.{take-at}
+use borrow.Author.Tests.{leb-true, leb-false, le-leb, lt-leb}
 use Rattle.laws.specs.Says.{Says, pick}
 use Rattle.laws.specs.Lists.{All, every}
+use Rattle.laws.proofs.Says.{says-ne, says-no}
 use Rattle.filter.specs.declared.component.Filter.{Filter}
 use Rattle.element.specs.declared.answer.SetOperation.the-variants.{Create}
 use Rattle.element.specs.declared.answer.Answer.{Answer}
@@ -17,41 +19,23 @@ use Rattle.element.specs.declared.answer.Answer.the-variants.{Filters, I
 use Rattle.element.specs.declared.answer.Element.{Element}
 use Rattle.element.specs.declared.answer.Cause.{Cause}
 use Rattle.element.specs.declared.answer.Cause.the-variants.{Operation, Semantics, Coding}
-use Rattle.element.specs.declared.write.Written.the-variants.{Wrote}
-use Rattle.element.specs.Numbers.{numberOf}
+use Rattle.element.specs.declared.write.Unwritten.{Unwritten}
+use Rattle.element.specs.declared.write.Unwritten.the-variants.{NotGiven, TooLong, NoRoom}
+use Rattle.element.specs.declared.write.Written.{Written}
+use Rattle.element.specs.declared.write.Written.the-variants.{Wrote, Refused as refusedTo}
+use Rattle.element.specs.Numbers.{numberOf, writtenNumber}
 use Rattle.element.specs.Head.{longest, operationOf, create, extensionIn, countIn}
 use Rattle.element.specs.Framing.{Raw, Split, cut, split, splitOf, restFits, notFramed, filters, framedSplit, framedSet, framedBy, framedOf}
 use Rattle.element.specs.Read.{refused, entryFittable, Entries, badly, coded, entriesOf, twice, filterSet, judgedEntries, judgedFrame, readValue, readElement}
 use Rattle.element.specs.Write.{octetsOf, givenBy, given, writtenBy, writeOf}
-use Rattle.element.specs.Meaning.{Octet, ElementInRange, ReadsAs, IsCause, SomeFilterUnfit}
+use Rattle.element.specs.Order.{InOrder}
+use Rattle.element.specs.Meaning.{Octet, ElementInRange, ReadsAs, IsCause, TooLongOrUnframed, SomeFilterBadlyCoded, SomeFilterUnfit, SomethingTwice}
 use Rattle.element.proofs.RoundTrip.{round, octets-octets}
-use Rattle.element.proofs.Given.{reads-given, semantics-says}
+use Rattle.element.proofs.Ordered.{in-order}
+use Rattle.element.proofs.Given.{reads-given}
+use Rattle.element.proofs.Causes.{cause-says}
 
--- ---- "an operation written and read again is the same", for every operation that the writer accepts
--- what was written, by the writer's tests
-module _ (e : Element) (r : ElementInRange e) (buffer : List ℕ) where
-  no : {A : Type 0} → _≡_ {A = ℕ} 0 1 → A
-  no q = absurd (let z : ⊥ = omega arith in z)
-
-  back : given e ≡ true → leb (length (octetsOf e)) 255 ≡ true → (n : ℕ) → Wrote (length (octetsOf e)) ≡ Wrote n
-      → readElement (take n (octetsOf e ++ drop (length (octetsOf e)) buffer)) ≡ e
-  unfolding readElement
-  back g s n w =
-      let l : length (octetsOf e) ≡ n = cc in
-      rw (take-at (octetsOf e) (drop (length (octetsOf e)) buffer) n l, s) (round e r g)
-
-  told : (b c d : Bool) → given e ≡ b → leb (length (octetsOf e)) 255 ≡ c → (n : ℕ) → writtenBy b c d e buffer .written ≡ Wrote n
-      → readElement (take n (writtenBy b c d e buffer .buffer)) ≡ e
-  told true true true g s n w = back g s n w
-  told true true false g s n w = no (cc)
-  told true false d g s n w = no (cc)
-  told false c d g s n w = no (cc)
-
-  pub written-reads : (n : ℕ) → writeOf e buffer .written ≡ Wrote n → readElement (take n (writeOf e buffer .buffer)) ≡ e
-  unfolding writeOf
-  written-reads n w = told (given e) (leb (length (octetsOf e)) 255) (leb (length (octetsOf e)) (length buffer)) refl refl n w
-
--- ---- the writer's 10 is given exactly where no list of octets, of whatever length, reads as that operation
+-- ---- the writer takes exactly what some list of octets, of whatever length, reads as
 operation : (a : Answer) (row : List Filter) (marks : List Bool) → givenBy a row marks ≡ true → numberOf a ≡ 0
 operation (Filters op) row marks g = refl
 operation Identifiers row marks g = refl
@@ -68,9 +52,97 @@ given-says e r =
           rw (s .reads) at h;
     }
 
--- ---- cause 44 is given exactly where the value is framed, every filter is well coded, and some filter fits no packet
-pub unfit-says : (xs : List ℕ) → All Octet xs → (readElement xs ≡ refused Semantics → SomeFilterUnfit xs) × (SomeFilterUnfit xs → readElement xs ≡ refused Semantics)
-unfit-says = semantics-says
+-- ---- what the writer does, and where
+-- a number other than 0 is of one refusal
+same-refusal : (w : Written) (u : Unwritten) → writtenNumber w ≡ writtenNumber (refusedTo u) → w ≡ refusedTo u
+same-refusal (Wrote n) NotGiven q = absurd (omega arith)
+same-refusal (Wrote n) TooLong q = absurd (omega arith)
+same-refusal (Wrote n) NoRoom q = absurd (omega arith)
+same-refusal (refusedTo NotGiven) NotGiven q = refl
+same-refusal (refusedTo NotGiven) TooLong q = absurd (omega arith)
+same-refusal (refusedTo NotGiven) NoRoom q = absurd (omega arith)
+same-refusal (refusedTo TooLong) NotGiven q = absurd (omega arith)
+same-refusal (refusedTo TooLong) TooLong q = refl
+same-refusal (refusedTo TooLong) NoRoom q = absurd (omega arith)
+same-refusal (refusedTo NoRoom) NotGiven q = absurd (omega arith)
+same-refusal (refusedTo NoRoom) TooLong q = absurd (omega arith)
+same-refusal (refusedTo NoRoom) NoRoom q = refl
+
+module _ (e : Element) (r : ElementInRange e) (buffer : List ℕ) where
+  abbrev size : ℕ
+  size = length (octetsOf e)
+
+  -- n octets were put into the buffer, and they are the element's
+  record Put (n : ℕ) (after : List ℕ) : Type 0 where
+    taken : given e ≡ true
+    short : size ≤ longest
+    octets : take n after ≡ octetsOf e
+
+  -- where the writer refuses so
+  abbrev Refuses : Unwritten → Type 0
+  Refuses NotGiven = ReadsAs e → ⊥
+  Refuses TooLong = ReadsAs e × (longest < size)
+  Refuses NoRoom = (ReadsAs e × (size ≤ longest)) × (length buffer < size)
+
+  abbrev Why : Written → List ℕ → Type 0
+  Why (Wrote n) after = Put n after
+  Why (refusedTo u) after = Refuses u
+
+  why-by : (b c d : Bool) → given e ≡ b → leb size longest ≡ c → leb size (length buffer) ≡ d
+      → Why (writtenBy b c d e buffer .written) (writtenBy b c d e buffer .buffer)
+  why-by false c d g s f = says-ne (given-says e r) g
+  why-by true false d g s f = (given-says e r .to g, leb-false size longest s)
+  why-by true true false g s f = ((given-says e r .to g, leb-true size longest s), leb-false size (length buffer) f)
+  why-by true true true g s f =
+      record { taken = g; short = leb-true size longest s; octets = take-at (octetsOf e) (drop size buffer) size refl }
+
+  why : (w : Written) → writeOf e buffer .written ≡ w → Why w (writeOf e buffer .buffer)
+  unfolding writeOf
+  why w q =
+      subst (λ (w : Written). Why w (writeOf e buffer .buffer)) q
+      (why-by (given e) (leb size longest) (leb size (length buffer)) refl refl refl)
+
+  refuses : (u : Unwritten) → Refuses u → writeOf e buffer .written ≡ refusedTo u
+  unfolding writeOf
+  refuses NotGiven h = rw (says-no (given-says e r) h)
+  refuses TooLong h = rw (given-says e r .from (h .0), lt-leb size longest (h .1))
+  refuses NoRoom h = rw (given-says e r .from (h .0 .0), le-leb size longest (h .0 .1), lt-leb size (length buffer) (h .1))
+
+  refusal-says : (u : Unwritten) → (writtenNumber (writeOf e buffer .written) ≡ writtenNumber (refusedTo u)) ↔ Refuses u
+  refusal-says u = (λ q. why (refusedTo u) (same-refusal (writeOf e buffer .written) u q), λ h. ap writtenNumber (refuses u h))
+
+  -- ---- "Writer: 10, 11, 9": each number is given exactly where its test refuses, and those before it do not
+  pub writer-10 : (writtenNumber (writeOf e buffer .written) ≡ 10) ↔ (ReadsAs e → ⊥)
+  writer-10 = refusal-says NotGiven
+
+  pub writer-11 : (writtenNumber (writeOf e buffer .written) ≡ 11) ↔ ReadsAs e × (longest < length (octetsOf e))
+  writer-11 = refusal-says TooLong
+
+  pub writer-9 : (writtenNumber (writeOf e buffer .written) ≡ 9) ↔ (ReadsAs e × (length (octetsOf e) ≤ longest)) × (length buffer < length (octetsOf e))
+  writer-9 = refusal-says NoRoom
+
+  -- ---- "an operation written and read again is the same", for every operation that the writer accepts
+  pub written-reads : (n : ℕ) → writeOf e buffer .written ≡ Wrote n → readElement (take n (writeOf e buffer .buffer)) ≡ e
+  unfolding readElement
+  written-reads n w =
+      let put = why (Wrote n) w in
+      rw (put .octets, le-leb size longest (put .short)) (round e r (put .taken))
+
+  -- ---- "The writer puts filters in rising identifier and components in rising type."
+  pub writer-order : (n : ℕ) → writeOf e buffer .written ≡ Wrote n → InOrder (framedOf (take n (writeOf e buffer .buffer)))
+  writer-order n w =
+      let put = why (Wrote n) w in
+      rw (put .octets) (in-order e r (put .taken))
+
+-- ---- the reader gives each of its numbers exactly where a step with that number refuses the value, and those before it do not
+pub reader-42 : (xs : List ℕ) → (numberOf (readElement xs .answer) ≡ 42) ↔ TooLongOrUnframed xs
+reader-42 xs = cause-says xs Operation tt
+
+pub reader-44 : (xs : List ℕ) → All Octet xs → (numberOf (readElement xs .answer) ≡ 44) ↔ SomeFilterUnfit xs
+reader-44 xs octets = cause-says xs Semantics octets
+
+pub reader-45 : (xs : List ℕ) → All Octet xs → (numberOf (readElement xs .answer) ≡ 45) ↔ SomeFilterBadlyCoded xs ⊎ SomethingTwice xs
+reader-45 xs octets = cause-says xs Coding octets
 
 -- ---- a value whose operation is create reads as a create or as a cause
 abbrev CreateOrCause : Answer → Type 0

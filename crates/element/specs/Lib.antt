@@ -5,5 +5,6 @@ pub mod Read
 pub mod Write
 pub mod Numbers
 pub mod Meaning
+pub mod Order
 pub mod Entries
 pub mod inner
