@@ -1,11 +1,17 @@
 pub mod Typed
 pub mod Rows
 pub mod Views
+pub mod Asked
 pub mod Preserved
 pub mod Whole
 pub mod Laying
+pub mod Messages
+pub mod Release
+pub mod Named
 pub mod Theorems
 pub mod Followers
 pub mod Conflicts
 pub mod Answers
+pub mod Checks
+pub mod Closing
 pub mod Thin

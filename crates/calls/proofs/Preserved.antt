@@ -20,8 +20,8 @@ use Rattle.table.specs.declared.bearer.Table.{Table}
 use Rattle.filter.specs.Sizes.{placeCount}
 use Rattle.filter.specs.Build.{emptyFilter}
 use Rattle.table.specs.Bearers.{firstIdentity, lastIdentity, bearerCount, lastTransaction, isIdentity, indexOf, identityOf, inRow, roleAt, transactionAt, filterAt, View, view, build, isIdle, isDefault, roleOf, connectionOf, connectionAt}
-use Rattle.table.specs.WellFormed.{Held, Well, WellFormed}
-use Rattle.table.proofs.Meaning.{Fine, idle-says, range-says}
+use Rattle.table.specs.WellFormed.{Held, ActiveDefault, Well, WellFormed}
+use Rattle.table.proofs.Meaning.{Fine}
 use Rattle.calls.specs.inner.Walk.{so}
 use Rattle.calls.specs.Steps.{opensAt, closedView, closed, startedView, openedView, cutView, ofConnection, isAt, droppedBy, dropped, deletedIn, deletedView}
 use Rattle.calls.specs.Changes.{Taken, Void}
@@ -46,7 +46,7 @@ pub fine-at : (v : View) → Well v → (i j : ℕ) → i < bearerCount → j < 
 fine-at v w i j l m = record { zeroed = w .zeroed i j l m; coded = w .coded i j l m; fitted = w .fitted i j l m }
 
 -- ---- what was there stays or is gone
-either-stands : {A : Type 0} (b : Bool) (x y : A) → (pick b x y ≡ y) ⊎ (pick b x y ≡ x)
+pub either-stands : {A : Type 0} (b : Bool) (x y : A) → (pick b x y ≡ y) ⊎ (pick b x y ≡ x)
 either-stands true x y = inr refl
 either-stands false x y = inl refl
 
@@ -151,13 +151,10 @@ unfolding opensAt
 not-open t x e i l h = says-ne (says-any bearerCount (λ i l. says-eq (transactionAt t i) x)) e (record { at = i; below = l; holds = h })
 
 -- ---- one more bearer
--- the link names an active default
-abbrev pub ActiveDefault : Table → ℕ → Type 0
-ActiveDefault t link = (firstIdentity ≤ link) × (link ≤ lastIdentity) × (roleAt t (indexOf link) ≡ Default)
 
 module _ (t : Table) (w : WellFormed t) (k : ℕ) (idle : roleAt t k ≡ Idle) where
   -- an idle bearer has no transaction and no filter, so that only links are new
-  pub well-opened : (role : Role) → ((link : ℕ) → role ≡ Dedicated link → ActiveDefault t link) → Well (openedView t k role)
+  pub well-opened : (role : Role) → ((link : ℕ) → role ≡ Dedicated link → ActiveDefault (roleAt t) link) → Well (openedView t k role)
   well-opened role fits =
       record {
         silent = λ i l h. w .silent i l (before i h (eqb i k) refl);
@@ -185,15 +182,15 @@ module _ (t : Table) (w : WellFormed t) (k : ℕ) (idle : roleAt t k ≡ Idle) w
       other : (i : ℕ) → (roleAt t i ≡ Idle → ⊥) → openedView t k role .role i ≡ roleAt t i
       other i n = rw (says-no (says-eq i k) (λ e. n (ap (roleAt t) e ∙ idle)))
 
-      linked : (i link : ℕ) → i < bearerCount → (b : Bool) → eqb i k ≡ b → pick (eqb i k) role (roleAt t i) ≡ Dedicated link → ActiveDefault t link
+      linked : (i link : ℕ) → i < bearerCount → (b : Bool) → eqb i k ≡ b → pick (eqb i k) role (roleAt t i) ≡ Dedicated link → ActiveDefault (roleAt t) link
       linked i link l true e h = fits link (rw e at h)
       linked i link l false e h = w .linked i link l (rw e at h)
 
   pub well-default : Well (openedView t k Default)
   well-default = well-opened Default (λ link e. never refl (ap isDefault e))
 
-  pub well-dedicated : (link : ℕ) → ActiveDefault t link → Well (openedView t k (Dedicated link))
-  well-dedicated link h = well-opened (Dedicated link) (λ other e. let q : link ≡ other = cc in subst (ActiveDefault t) q h)
+  pub well-dedicated : (link : ℕ) → ActiveDefault (roleAt t) link → Well (openedView t k (Dedicated link))
+  well-dedicated link h = well-opened (Dedicated link) (λ other e. let q : link ≡ other = cc in subst (ActiveDefault (roleAt t)) q h)
 
 -- ---- bearers gone
 -- a default takes its dedicated bearers along
@@ -278,7 +275,7 @@ pub conflict-says : (new : List Filter) {connected : Bool} {P : Type 0} → Says
 unfolding conflict
 conflict-says new s f = says-and (says-and s (says-it (held f))) (takes-says new (f .precedence))
 
-pick-same : {A : Type 0} (b : Bool) (x : A) → pick b x x ≡ x
+pub pick-same : {A : Type 0} (b : Bool) (x : A) → pick b x x ≡ x
 pick-same true x = refl
 pick-same false x = refl
 
@@ -365,17 +362,6 @@ module _ (new : List Filter) (create : Bool) (t : Table) (k connection : ℕ) wh
           fitted = λ i j l m. fine-laid i j l m .fitted;
           distinct = λ i m j l a b c d e f g h. two i m j l a b c d e f g h (laid-cases i j) (laid-cases m l);
         }
-
--- a bearer whose role is not idle is in range, and not idle at its index
-abbrev pub Active : Table → ℕ → Type 0
-Active t bearer = (firstIdentity ≤ bearer) × (bearer ≤ lastIdentity) × (roleAt t (indexOf bearer) ≡ Idle → ⊥)
-
-pub active-at : (t : Table) (bearer : ℕ) → isIdle (roleOf t bearer) ≡ false → Active t bearer
-active-at t bearer = go (isIdentity bearer) refl
-  where
-    go : (b : Bool) → isIdentity bearer ≡ b → isIdle (pick b (roleAt t (indexOf bearer)) Idle) ≡ false → Active t bearer
-    go true e h = let r = range-says bearer .to e in (r .0, r .1, says-ne (idle-says (roleAt t (indexOf bearer))) h)
-    go false e h = never refl h
 
 -- new filters on an active bearer, whether or not the connection is released
 pub laid-well : (t : Table) (bearer : ℕ) (new : List Filter) (create : Bool) → WellFormed t → (roleAt t (indexOf bearer) ≡ Idle → ⊥) → WellSet new

@@ -95,7 +95,7 @@ modify-read-leaves t bearer value =
     picked (RefusalLeaves t) (isDedicated (roleOf t bearer) && eqb (operationOf value) deleteTft) _ _ (λ r. refl)
     (modified-by-leaves (readElement value .answer) t bearer (readElement value))
 
-modify-named-leaves : (t : Table) (bearer : ℕ) (value : List ℕ) → RefusalLeaves t (modifyNamed t bearer value)
+pub modify-named-leaves : (t : Table) (bearer : ℕ) (value : List ℕ) → RefusalLeaves t (modifyNamed t bearer value)
 unfolding modifyNamed
 modify-named-leaves t bearer value =
     picked (RefusalLeaves t) (isIdle (roleOf t bearer)) _ _ (λ r. refl) (picked (RefusalLeaves t) (headFine value) _ _ (modify-read-leaves t bearer value) (λ r. refl))
@@ -121,7 +121,7 @@ unfolding activateRead
 activate-read-leaves t bearer link value =
     picked (RefusalLeaves t) (eqb (operationOf value) create) _ _ (activated-by-leaves (verdictOn (readElement value .answer)) t bearer link (readElement value .filters)) (λ r. refl)
 
-activate-named-leaves : (t : Table) (bearer link : ℕ) (value : List ℕ) → RefusalLeaves t (activateNamed t bearer link value)
+pub activate-named-leaves : (t : Table) (bearer link : ℕ) (value : List ℕ) → RefusalLeaves t (activateNamed t bearer link value)
 unfolding activateNamed
 activate-named-leaves t bearer link value =
     picked (RefusalLeaves t) (available t bearer && isDefault (roleOf t link)) _ _

@@ -8,7 +8,6 @@ use native.Mathlib.Omega.{arith}
 use lib.Dec.{eqb}
 use lib.ListN.{length, getD, replicate}
 use borrow.Author.Tests.{eqb-true, eq-eqb, eqb-false, ne-eqb, le-leb}
-use Rattle.laws.specs.Says.{pick}
 use Rattle.laws.specs.Index.{anyBelow}
 use Rattle.laws.specs.Lists.{every, All, Each}
 use Rattle.laws.proofs.Lists.{each-tab}
@@ -36,10 +35,10 @@ use Rattle.table.specs.declared.bearer.Role.the-variants.{Idle, Default, Dedica
 use Rattle.table.specs.declared.bearer.Table.{Table}
 use Rattle.filter.specs.Sizes.{placeCount}
 use Rattle.filter.specs.Build.{emptyFilter}
-use Rattle.table.specs.Bearers.{firstIdentity, lastIdentity, bearerCount, lastTransaction, isIdentity, indexOf, noBearer, inRow, roleAt, transactionAt, filterAt, View, view, bearerOf, build, isIdle, isDefault, isDedicated, roleOf, connectionAt}
+use Rattle.table.specs.Bearers.{bearerCount, lastTransaction, indexOf, noBearer, inRow, roleAt, transactionAt, filterAt, View, view, bearerOf, build, isIdle, isDefault, isDedicated, roleOf, connectionAt}
 use Rattle.table.specs.Ranges.{RoleInRange, BearerInRange, TableInRange}
-use Rattle.table.specs.WellFormed.{wellFormed, Well}
-use Rattle.table.proofs.Meaning.{Fine, idle-says, default-says, range-says, place-says, well-says}
+use Rattle.table.specs.WellFormed.{wellFormed, ActiveDefault, Well}
+use Rattle.table.proofs.Meaning.{Fine, default-of, place-says, well-says}
 use Rattle.calls.specs.declared.reply.Outcome.{Outcome}
 use Rattle.calls.specs.Steps.{opensAt, isOpen, ownerOf, closedView, closed, startedView, openedView, cutView, ofConnection, isAt, droppedBy, dropped, deletedIn, deletedView, empties}
 use Rattle.calls.specs.Lay.{placedIn, laidView, released, layOrRelease, layWithin, layOf}
@@ -48,7 +47,9 @@ use Rattle.calls.specs.Modify.{creates, mismatch, deletedFilters, delete
 use Rattle.calls.specs.Others.{available, activateDefaultOf, activatedBy, activateRead, activateNamed, activateDedicatedOf, deactivateOf, afterReject, rejectOf, startOf}
 use Rattle.calls.specs.Changes.{Sound}
 use Rattle.calls.proofs.Views.{role-built}
-use Rattle.calls.proofs.Preserved.{well-built, closed-well, well-started, not-open, ActiveDefault, well-default, well-dedicated, dropped-well, well-deleted, WellSet, laid-cases, active-at, laid-well}
+use Rattle.calls.proofs.Preserved.{well-built, closed-well, well-started, not-open, well-default, well-dedicated, dropped-well, well-deleted, WellSet, laid-cases, laid-well}
+use Rattle.calls.specs.Checks.{Available}
+use Rattle.calls.proofs.Asked.{available-says, active-at}
 
 -- ---- The filters that are read may be laid
 row-well : (row : List Filter) → Each FilterInRange placeCount row → rowGiven row ≡ true → WellSet row
@@ -158,7 +159,7 @@ sound-built : (v : View) → ViewInRange v → Well v → Sound (build v)
 sound-built v r w = record { inRange = built-in-range v r; well = well-built v w }
 
 module _ (t : Table) (sound : Sound t) where
-  closed-sound : (x : ℕ) → Sound (closed t x)
+  pub closed-sound : (x : ℕ) → Sound (closed t x)
   unfolding closed
   closed-sound x =
       record {
@@ -198,24 +199,6 @@ module _ (t : Table) (sound : Sound t) where
 abbrev LeavesSound : Outcome → Type 0
 LeavesSound o = Sound (o .table)
 
--- an available identity is in range, and its bearer idle
-abbrev Available : Table → ℕ → Type 0
-Available t bearer = (firstIdentity ≤ bearer) × (bearer ≤ lastIdentity) × (roleAt t (indexOf bearer) ≡ Idle)
-
-available-at : (t : Table) (bearer : ℕ) → available t bearer ≡ true → Available t bearer
-available-at t bearer = go (isIdentity bearer) refl
-  where
-    go : (b : Bool) → isIdentity bearer ≡ b → b && isIdle (pick b (roleAt t (indexOf bearer)) Idle) ≡ true → Available t bearer
-    go true e h = let r = range-says bearer .to e in (r .0, r .1, idle-says (roleAt t (indexOf bearer)) .to h)
-    go false e h = never h refl
-
-default-at : (t : Table) (link : ℕ) → isDefault (roleOf t link) ≡ true → ActiveDefault t link
-default-at t link = go (isIdentity link) refl
-  where
-    go : (b : Bool) → isIdentity link ≡ b → isDefault (pick b (roleAt t (indexOf link)) Idle) ≡ true → ActiveDefault t link
-    go true e h = let r = range-says link .to e in (r .0, r .1, default-says (roleAt t (indexOf link)) .to h)
-    go false e h = never h refl
-
 -- the new dedicated bearer, before its filters
 abbrev linkedView : Table → ℕ → ℕ → View
 linkedView t bearer link = openedView t (indexOf bearer) (Dedicated link)
@@ -227,7 +210,7 @@ module _ (t : Table) (sound : Sound t) (value : List ℕ) (octets : All Octet va
   unfolding deletedFilters deletedTft
   modified-sound bearer h (readRefused refusal) e = sound
   modified-sound bearer h (Filters operation) e =
-      laid-sound t sound bearer (readElement value .filters) (creates operation) (active-at t bearer h .2) (read-in-range value octets .filters)
+      laid-sound t sound bearer (readElement value .filters) (creates operation) (active-at t bearer h .1) (read-in-range value octets .filters)
       (set-well value octets operation e)
   modified-sound bearer h Identifiers e =
       by-test LeavesSound (isDedicated (roleOf t bearer) && empties t (indexOf bearer) (readElement value .marks)) _ _ (λ _. sound)
@@ -242,11 +225,11 @@ module _ (t : Table) (sound : Sound t) (value : List ℕ) (octets : All Octet va
       by-test LeavesSound (headFine value) _ _ (λ _.
       by-test LeavesSound (isDedicated (roleOf t bearer) && eqb (operationOf value) 2) _ _ (λ _. sound) (λ _. modified-sound bearer h (readElement value .answer) refl)) (λ _. sound))
 
-  module _ (bearer link : ℕ) (idle : Available t bearer) (default : ActiveDefault t link) where
+  module _ (bearer link : ℕ) (idle : Available t bearer) (default : ActiveDefault (roleAt t) link) where
     linked-sound : Sound (build (linkedView t bearer link))
     linked-sound =
         sound-built (linkedView t bearer link) (opened-in-range t (sound .inRange) (indexOf bearer) (Dedicated link) (omega arith))
-        (well-dedicated t (sound .well) (indexOf bearer) (idle .2) link default)
+        (well-dedicated t (sound .well) (indexOf bearer) (idle .1) link default)
 
     linked-active : roleAt (build (linkedView t bearer link)) (indexOf bearer) ≡ Idle → ⊥
     linked-active h =
@@ -271,7 +254,7 @@ module _ (t : Table) (sound : Sound t) (value : List ℕ) (octets : All Octet va
       let f = both (available t bearer) (isDefault (roleOf t link)) h in
       by-test LeavesSound (headFine value) _ _ (λ _.
       by-test LeavesSound (eqb (operationOf value) create) _ _
-      (λ e. activated-sound bearer link (available-at t bearer (f .0)) (default-at t link (f .1)) (eqb-true (operationOf value) create e)) (λ _. sound)) (λ _. sound)) (λ _. sound)
+      (λ e. activated-sound bearer link (available-says t bearer .to (f .0)) (default-of t link .to (f .1)) (eqb-true (operationOf value) create e)) (λ _. sound)) (λ _. sound)) (λ _. sound)
 
 -- a transaction that is not open, of an identity that may be
 unopened : (t : Table) (x : ℕ) → (x ≡ 0 → ⊥) → x ≤ lastTransaction → isOpen t x ≡ false → anyBelow (opensAt t x) bearerCount ≡ false
@@ -287,7 +270,7 @@ module _ (t : Table) (sound : Sound t) where
       opened : available t bearer ≡ true → Sound (build (openedView t (indexOf bearer) Default))
       opened e =
           sound-built (openedView t (indexOf bearer) Default) (opened-in-range t (sound .inRange) (indexOf bearer) Default tt)
-          (well-default t (sound .well) (indexOf bearer) (available-at t bearer e .2))
+          (well-default t (sound .well) (indexOf bearer) (available-says t bearer .to e .1))
 
   pub activate-dedicated-sound : (bearer link x : ℕ) (value : List ℕ) → All Octet value → Sound (activateDedicatedOf t bearer link x value .table)
   unfolding activateDedicatedOf
@@ -329,7 +312,7 @@ module _ (t : Table) (sound : Sound t) where
           let other : x ≡ 255 → ⊥ = eqb-false x 255 (n .1) in
           let few : x ≤ lastTransaction = omega arith in
           sound-built (startedView t (indexOf bearer) x) (started-in-range t (sound .inRange) (indexOf bearer) x s)
-          (well-started t (sound .well) x (indexOf bearer) (active-at t bearer h .2) few (not-open t x (unopened t x some few o)))
+          (well-started t (sound .well) x (indexOf bearer) (active-at t bearer h .1) few (not-open t x (unopened t x some few o)))
 
 -- ---- The same of the test
 module _ (t : Table) (r : TableInRange t) (e : wellFormed t ≡ true) where

@@ -4,4 +4,5 @@ pub mod Lay
 pub mod Modify
 pub mod Others
 pub mod Changes
+pub mod Checks
 pub mod inner
