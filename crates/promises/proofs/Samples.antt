@@ -1,24 +1,27 @@
 -- Document 01's sample elements, those marked * and one more: a single list under a single claim about the written definitions, computed; and a
--- sequence of calls with two routes, computed too.
--- "Bearer 5 default without TFT; 6 dedicated, linked to 5."
+-- sequence of calls with two routes, computed too. Of each sample the whole outcome is shown: reply, follow-up list, and all eleven bearers with their rows;
+-- of the sequence every reply, and the whole table after eight calls and at the end.
 -- Assumes nothing.
 use mathlib.Core.Path.{_≡_, refl}
-use mathlib.Core.Bool.{Bool, true, false, _&&_, _||_}
-use mathlib.Core.List.{List, [], _∷_, _++_}
+use mathlib.Core.Bool.{_&&_}
+use mathlib.Core.List.{List, [], _∷_, _++_, map}
 use Prim.Native.Nat.{ℕ}
 use lib.Dec.{eqb}
-use lib.ListN.{take}
+use lib.ListN.{take, getD}
 use Rattle.laws.specs.Says.{pick}
 use Rattle.laws.specs.Index.{allBelow, anyBelow, lastBelow, picks, tab, pad, joined}
 use Rattle.laws.specs.Lists.{every, isIn, repeats}
 use Rattle.laws.specs.Numbers.{sameUnder}
 use Rattle.laws.specs.Octets.{beFrom}
-use Rattle.filter.specs.declared.component.Protocol.{Protocol}
-use Rattle.filter.specs.declared.component.Protocol.the-variants.{Absent as noProtocol, Is as isProtocol}
+use Rattle.filter.specs.declared.component.RemoteAddress.the-variants.{Absent as noAddress}
+use Rattle.filter.specs.declared.component.Protocol.the-variants.{Is as isProtocol}
 use Rattle.filter.specs.declared.component.Port.{Port}
-use Rattle.filter.specs.declared.component.Port.the-variants.{Absent as noPort, Is as isPort, Range}
+use Rattle.filter.specs.declared.component.Port.the-variants.{Absent as noPort, Is as isPort}
+use Rattle.filter.specs.declared.component.Index.the-variants.{Absent as noIndex}
+use Rattle.filter.specs.declared.component.Class.the-variants.{Absent as noClass}
+use Rattle.filter.specs.declared.component.Label.the-variants.{Absent as noLabel}
 use Rattle.filter.specs.declared.component.Filter.{Filter}
-use Rattle.filter.specs.Build.{protocol, bare, excluded, added, built, emptyFilter}
+use Rattle.filter.specs.Build.{excluded, added, emptyFilter}
 use Rattle.filter.specs.declared.packet.Header.{Header}
 use Rattle.filter.specs.Coding.{held, wellCoded, emptyPlace, uplink}
 use Rattle.filter.specs.Fit.{validHeader, agreesTransport, agreesNetwork, fits}
@@ -29,86 +32,66 @@ use Rattle.element.specs.Read.{noFilters, noMarks, codedOf, entriesOf as elemen
 use Rattle.table.specs.declared.bearer.Role.{Role}
 use Rattle.table.specs.declared.bearer.Role.the-variants.{Idle, Default, Dedicated}
 use Rattle.table.specs.declared.bearer.Table.{Table}
-use Rattle.table.specs.Bearers.{roleAt, emptyTable, filterAt, build}
+use Rattle.table.specs.Bearers.{identityOf, emptyTable, build}
 use Rattle.table.specs.WellFormed.{filterFine, bearerFine, transactionsApart, transactionFrom, distinctTransactions, rowPrecedences, connectionPrecedences, distinctAt, distinctPrecedences, wellFormed}
 use Rattle.calls.specs.declared.reply.Answer.{Answer}
 use Rattle.calls.specs.declared.reply.Answer.the-variants.{Accept, Reject, Release, Reattach, Started, Closed, Refused}
-use Rattle.calls.specs.declared.reply.Outcome.{Outcome}
-use Rattle.calls.specs.Reply.{causeNumber, refusalNumber}
-use Rattle.calls.specs.Steps.{opensAt, isOpen, closed, ofConnection, deletedIn, holdsIn, staysIn, empties}
+use Rattle.calls.specs.declared.reply.FollowUps.{FollowUps}
+use Rattle.calls.specs.declared.reply.Reply.{Reply}
+use Rattle.calls.specs.Reply.{causeNumber, refusalNumber, followOf}
+use Rattle.calls.specs.Steps.{opensAt, isOpen, ownerOf, closed, ofConnection, isAt, dropped, deletedIn, holdsIn, staysIn, empties}
 use Rattle.calls.specs.Lay.{old, takenBy, takes, conflict, placed, conflictIn, loses, placedIn, losesAt, conflictOnDefault, follows, released, followers, otherAt, onlyConnection, layWithin, layOf}
 use Rattle.element.specs.Head.{headFine}
 use Rattle.calls.specs.Modify.{deletedFilters, deletedTft, modifyRead, modifyNamed, modifyOf}
-use Rattle.calls.specs.Others.{activateDefaultOf, activateRead, activateNamed, activateDedicatedOf}
-use Rattle.route.specs.declared.answer.Route.the-variants.{Bearer, Discard}
-use Rattle.route.specs.declared.answer.Answer.{Answer as RouteAnswer}
-use Rattle.route.specs.declared.answer.Answer.the-variants.{Routed, Refused as routeRefused}
+use Rattle.calls.specs.Others.{activateDefaultOf, activateRead, activateNamed, activateDedicatedOf, deactivateOf, rejectOf, startOf}
+use Rattle.route.specs.declared.answer.Route.the-variants.{Bearer}
+use Rattle.route.specs.declared.answer.Answer.the-variants.{Routed}
 use Rattle.route.specs.Lists.{placeHas, bearerHas, entryIn, entryAt, entriesOf}
 use Rattle.route.specs.Routes.{filterOf, entryFits, firstFit, uplinkAt, hasUplink, otherwiseOf, routeOn, routeOf}
-use Rattle.promises.specs.Calls.{Call, activateDefault, activateDedicated, modify, outcomeOf, run, reached}
+use Rattle.promises.specs.Calls.{Call, activateDefault, activateDedicated, modify, deactivate, reject, start, outcomeOf, run, replies, reached}
 
--- precedence 10, UDP
-abbrev udp : Filter
-udp = built (bare 10 3) (protocol 17 ∷ [])
+-- ---- Tables and filters of the samples
+-- bearers 5, 6, .. in these roles, the others idle; no transaction is open
+abbrev tableIn : List Role → (ℕ → ℕ → Filter) → Table
+tableIn roles filters = build (record { role = λ i. getD roles i Idle; transaction = λ i. 0; filter = filters })
 
--- 5 default, 6 and 7 dedicated and linked to 5, 8 default too where `second`; `udp` with identifier n on the bearer at index k
-abbrev with : Bool → ℕ → ℕ → Table
-with second k n =
-    build (record {
-      role = λ i. pick (eqb i 0) Default (pick (eqb i 1 || eqb i 2) (Dedicated 5) (pick (second && eqb i 3) Default Idle));
-      transaction = λ i. 0;
-      filter = λ i j. pick (eqb i k && eqb j n) udp emptyFilter;
-    })
+-- no filter is held
+abbrev with : List Role → Table
+with roles = tableIn roles (λ i j. emptyFilter)
 
--- 16 is no place: nothing is held
-abbrev none : Table
-none = with false 0 16
+-- one filter is held, by this bearer with this identifier
+abbrev holding : List Role → ℕ → ℕ → Filter → Table
+holding roles bearer identifier f = tableIn roles (λ i j. pick (eqb (identityOf i) bearer && eqb j identifier) f emptyFilter)
 
--- an outcome in numbers, so that both sides compute to literals: the answer, and then the follow-up list
-abbrev accepts : ℕ → List ℕ → List ℕ
-accepts bearer follow = 1 ∷ bearer ∷ follow
+-- "Bearer 5 default without TFT; 6 dedicated, linked to 5."
+abbrev fiveAndSix : List Role
+fiveAndSix = Default ∷ Dedicated 5 ∷ []
 
-abbrev rejects : ℕ → ℕ → List ℕ
-rejects bearer cause = 2 ∷ bearer ∷ cause ∷ []
+-- ".. while dedicated 7 of that connection .."
+abbrev andSeven : List Role
+andSeven = Default ∷ Dedicated 5 ∷ Dedicated 5 ∷ []
 
-abbrev releases : ℕ → List ℕ
-releases default = 3 ∷ default ∷ []
+-- ".. where a second default is active": 7; and 7 alone, when the connection of 5 is gone
+abbrev andSecond : List Role
+andSecond = Default ∷ Dedicated 5 ∷ Default ∷ []
 
-abbrev reattaches : List ℕ
-reattaches = 4 ∷ []
+abbrev secondAlone : List Role
+secondAlone = Idle ∷ Idle ∷ Default ∷ []
 
-abbrev told : Answer → List ℕ
-told (Accept bearer) = 1 ∷ bearer ∷ []
-told (Reject bearer cause) = 2 ∷ bearer ∷ causeNumber cause ∷ []
-told (Release default) = 3 ∷ default ∷ []
-told Reattach = 4 ∷ []
-told (Started transaction) = 5 ∷ transaction ∷ []
-told (Closed transaction) = 6 ∷ transaction ∷ []
-told (Refused refusal) = 7 ∷ refusalNumber refusal ∷ []
-
-abbrev tells : Outcome → List ℕ
-tells o = told (o .reply .answer) ++ take (o .reply .follow .count) (o .reply .follow .bearers)
-
--- what is left at index i in place j: the filter's precedence, 0 for nothing
-abbrev left : Outcome → ℕ → ℕ → List ℕ
-left o i j = pick (held (filterAt (o .table) i j)) (filterAt (o .table) i j .precedence) 0 ∷ []
-
--- what stands at index i in place j: precedence, direction, protocol and remote port; a number beyond its type's where there is none
-abbrev protocolIn : Protocol → ℕ
-protocolIn noProtocol = 256
-protocolIn (isProtocol x) = x
-
-abbrev portIn : Port → ℕ
-portIn noPort = 65536
-portIn (isPort x) = x
-portIn (Range low high) = 65537
-
-abbrev stands : Outcome → ℕ → ℕ → List ℕ
-stands o i j = let f = filterAt (o .table) i j in f .precedence ∷ f .direction ∷ protocolIn (f .protocol) ∷ portIn (f .remote) ∷ []
-
--- a modify without transaction
-abbrev on : Table → ℕ → List ℕ → Outcome
-on t bearer value = outcomeOf t (modify bearer 0 value)
+-- "precedence 10, UDP", with this remote port; direction 3, as octet 31 has it; every other component is absent
+abbrev udp : Port → Filter
+udp remote =
+    record {
+      precedence = 10;
+      direction = 3;
+      address = noAddress;
+      protocol = isProtocol 17;
+      local = noPort;
+      remote = remote;
+      index = noIndex;
+      class = noClass;
+      label = noLabel;
+    }
 
 abbrev sip : List ℕ
 sip = 0x21 ∷ 0x31 ∷ 0x0A ∷ 0x05 ∷ 0x30 ∷ 0x11 ∷ 0x50 ∷ 0x13 ∷ 0xC4 ∷ []
@@ -117,70 +100,149 @@ sip = 0x21 ∷ 0x31 ∷ 0x0A ∷ 0x05 ∷ 0x30 ∷ 0x11 ∷ 0x50 ∷ 0x13 ∷ 0x
 abbrev add : List ℕ
 add = 0x61 ∷ 0x31 ∷ 0x0A ∷ 0x02 ∷ 0x30 ∷ 0x11 ∷ []
 
-abbrev Samples : Type 0
-Samples =
-    (
-    -- "filter 1, precedence 10, UDP, remote port 5060; accept"
-    tells (on none 6 sip)
-    ∷ stands (on none 6 sip) 1 1
+-- ---- What is shown of an outcome, and that is all of it: the answer in document 01's numbers, the follow-up list, and the table
+pub data Said : Type 0 where
+  accepts : (bearer : ℕ) → Said
+  rejects : (bearer cause : ℕ) → Said
+  releases : (default : ℕ) → Said
+  reattaches : Said
+  starts : (transaction : ℕ) → Said
+  closes : (transaction : ℕ) → Said
+  refuses : (number : ℕ) → Said
+
+abbrev said : Answer → Said
+said (Accept bearer) = accepts bearer
+said (Reject bearer cause) = rejects bearer (causeNumber cause)
+said (Release default) = releases default
+said Reattach = reattaches
+said (Started transaction) = starts transaction
+said (Closed transaction) = closes transaction
+said (Refused refusal) = refuses (refusalNumber refusal)
+
+pub record Told : Type 0 where
+  pub answer : Said
+  pub follow : FollowUps
+
+abbrev told : Reply → Told
+told r = record { answer = said (r .answer); follow = r .follow }
+
+pub record Shown : Type 0 where
+  pub reply : Told
+  pub table : Table
+
+-- ---- The samples
+-- a modify without transaction, and what it is to give
+pub data Sample : Type 0 where
+  gives : (before : Table) (bearer : ℕ) (value : List ℕ) (answer : Said) (follow : List ℕ) (after : Table) → Sample
+
+-- .. where nobody follows and the table is as it was
+abbrev keeps : Table → ℕ → List ℕ → Said → Sample
+keeps t bearer value answer = gives t bearer value answer [] t
+
+abbrev shown : Sample → Shown
+shown (gives t bearer value answer follow after) =
+    let o = outcomeOf t (modify bearer 0 value) in
+    record { reply = told (o .reply); table = o .table }
+
+abbrev due : Sample → Shown
+due (gives t bearer value answer follow after) = record { reply = record { answer = answer; follow = followOf follow }; table = after }
+
+abbrev sampleElements : List Sample
+sampleElements =
+    -- "`21 31 0A 05 30 11 50 13 C4` on 6: filter 1, precedence 10, UDP, remote port 5060; accept."
+    gives (with fiveAndSix) 6 sip (accepts 6) [] (holding fiveAndSix 6 1 (udp (isPort 5060)))
     -- "The same without its last octet: 42." "`20`: 42." "`C0`: accept."
-    ∷ tells (on none 6 (take 8 sip))
-    ∷ tells (on none 6 (0x20 ∷ []))
-    ∷ tells (on none 6 (0xC0 ∷ []))
+    ∷ keeps (with fiveAndSix) 6 (take 8 sip) (rejects 6 42)
+    ∷ keeps (with fiveAndSix) 6 (0x20 ∷ []) (rejects 6 42)
+    ∷ keeps (with fiveAndSix) 6 (0xC0 ∷ []) (accepts 6)
     -- "`40` on 6: 41." "`41 01` on 6: 41, on 5: 42."
-    ∷ tells (on none 6 (0x40 ∷ []))
-    ∷ tells (on none 6 (0x41 ∷ 0x01 ∷ []))
-    ∷ tells (on none 5 (0x41 ∷ 0x01 ∷ []))
+    ∷ keeps (with fiveAndSix) 6 (0x40 ∷ []) (rejects 6 41)
+    ∷ keeps (with fiveAndSix) 6 (0x41 ∷ 0x01 ∷ []) (rejects 6 41)
+    ∷ keeps (with fiveAndSix) 5 (0x41 ∷ 0x01 ∷ []) (rejects 5 42)
     -- "`A1 01` where 6 holds only filter 1: 41; where 5 does, its TFT goes."
-    ∷ tells (on (with false 1 1) 6 (0xA1 ∷ 0x01 ∷ []))
-    ∷ tells (on (with false 0 1) 5 (0xA1 ∷ 0x01 ∷ []))
-    ∷ left (on (with false 0 1) 5 (0xA1 ∷ 0x01 ∷ [])) 0 1
-    -- "(ICMP with a port): 44"; a range that ends before it starts: 44; an unknown type: 45
-    ∷ tells (on none 6 (0x21 ∷ 0x31 ∷ 0x0A ∷ 0x05 ∷ 0x30 ∷ 0x01 ∷ 0x50 ∷ 0x13 ∷ 0xC4 ∷ []))
-    ∷ tells (on none 6 (0x21 ∷ 0x31 ∷ 0x0A ∷ 0x05 ∷ 0x41 ∷ 0x00 ∷ 0x02 ∷ 0x00 ∷ 0x01 ∷ []))
-    ∷ tells (on none 6 (0x21 ∷ 0x31 ∷ 0x0A ∷ 0x02 ∷ 0x31 ∷ 0x11 ∷ []))
+    ∷ keeps (holding fiveAndSix 6 1 (udp noPort)) 6 (0xA1 ∷ 0x01 ∷ []) (rejects 6 41)
+    ∷ gives (holding fiveAndSix 5 1 (udp noPort)) 5 (0xA1 ∷ 0x01 ∷ []) (accepts 5) [] (with fiveAndSix)
+    -- "`21 31 0A 05 30 01 50 13 C4` (ICMP with a port): 44." "`21 31 0A 05 41 00 02 00 01`: 44."
+    ∷ keeps (with fiveAndSix) 6 (0x21 ∷ 0x31 ∷ 0x0A ∷ 0x05 ∷ 0x30 ∷ 0x01 ∷ 0x50 ∷ 0x13 ∷ 0xC4 ∷ []) (rejects 6 44)
+    ∷ keeps (with fiveAndSix) 6 (0x21 ∷ 0x31 ∷ 0x0A ∷ 0x05 ∷ 0x41 ∷ 0x00 ∷ 0x02 ∷ 0x00 ∷ 0x01 ∷ []) (rejects 6 44)
+    -- "`21 31 0A 02 31 11`: 45."
+    ∷ keeps (with fiveAndSix) 6 (0x21 ∷ 0x31 ∷ 0x0A ∷ 0x02 ∷ 0x31 ∷ 0x11 ∷ []) (rejects 6 45)
     -- "Add of precedence 10 on 6 while dedicated 7 of that connection holds it: accept, 7 loses it, follow-up 7."
-    ∷ tells (on (with false 2 4) 6 add)
-    ∷ left (on (with false 2 4) 6 add) 2 4
+    ∷ gives (holding andSeven 7 4 (udp noPort)) 6 add (accepts 6) (7 ∷ []) (holding andSeven 6 1 (udp noPort))
     -- "If 5 holds it: no reply, detach and re-attach; 'release' where a second default is active."
-    ∷ tells (on (with false 0 4) 6 add)
-    ∷ tells (on (with true 0 4) 6 add)
+    ∷ gives (holding fiveAndSix 5 4 (udp noPort)) 6 add reattaches [] emptyTable
+    ∷ gives (holding andSecond 5 4 (udp noPort)) 6 add (releases 5) [] (with secondAlone)
     -- not marked: "Add of filter 1, precedence 10, over filter 1, precedence 10: no follow-up."
-    ∷ tells (on (with false 1 1) 6 add)
-    ∷ [])
-    ≡ (accepts 6 [] ∷ (10 ∷ 3 ∷ 17 ∷ 5060 ∷ []) ∷ rejects 6 42 ∷ rejects 6 42 ∷ accepts 6 [] ∷ rejects 6 41 ∷ rejects 6 41 ∷ rejects 5 42
-    ∷ rejects 6 41 ∷ accepts 5 [] ∷ (0 ∷ []) ∷ rejects 6 44 ∷ rejects 6 44 ∷ rejects 6 45
-    ∷ accepts 6 (7 ∷ []) ∷ (0 ∷ []) ∷ reattaches ∷ releases 5 ∷ accepts 6 [] ∷ [])
+    ∷ gives (holding fiveAndSix 6 1 (udp (isPort 5060))) 6 add (accepts 6) [] (holding fiveAndSix 6 1 (udp noPort))
+    ∷ []
 
--- ---- A sequence of calls: 5 is activated as a default and 6 with the filter of the first sample, from the empty table
-abbrev twoCalls : List Call
-twoCalls = activateDefault 5 ∷ activateDedicated 6 5 0 sip ∷ []
+abbrev Samples : Type 0
+Samples = map shown sampleElements ≡ map due sampleElements
 
-abbrev asNumber : Role → ℕ
-asNumber Idle = 0
-asNumber Default = 1
-asNumber (Dedicated link) = link
+-- ---- A sequence of calls from the empty table, refused ones among them. Each of the six kinds is called twice or more, with different replies, so that
+-- none may refuse everything or always reply the same
+-- a call, and what it is to reply
+pub data Turn : Type 0 where
+  turn : (call : Call) (answer : Said) (follow : List ℕ) → Turn
+
+abbrev called : Turn → Call
+called (turn c answer follow) = c
+
+abbrev awaited : Turn → Told
+awaited (turn c answer follow) = record { answer = answer; follow = followOf follow }
+
+-- to the table of the first sample: 6 comes with another filter, and the message of the sample puts its own in the place of that
+abbrev opening : List Turn
+opening =
+    turn (activateDefault 5) (accepts 5) []
+    -- "43 for an identity .. in use"; "refuses any operation but create with 41"
+    ∷ turn (activateDefault 5) (rejects 5 43) []
+    ∷ turn (activateDedicated 6 5 0 add) (rejects 6 41) []
+    ∷ turn (activateDedicated 6 5 0 (0x21 ∷ 0x32 ∷ 0x14 ∷ 0x02 ∷ 0x30 ∷ 0x06 ∷ [])) (accepts 6) []
+    -- 7: "start: bearer has a transaction"
+    ∷ turn (start 9 6) (starts 9) []
+    ∷ turn (start 10 6) (refuses 7) []
+    -- "A match is closed": when the message comes again, 9 is not open
+    ∷ turn (modify 6 9 sip) (accepts 6) []
+    ∷ turn (modify 6 9 sip) (rejects 6 47) []
+    ∷ []
+
+-- from there until a second default alone is left
+abbrev ending : List Turn
+ending =
+    -- 8 takes the precedence from 6
+    turn (activateDedicated 8 5 0 sip) (accepts 8) (6 ∷ [])
+    -- 3: "reject with an identity not open"
+    ∷ turn (reject 9 43) (refuses 3) []
+    ∷ turn (start 9 6) (starts 9) []
+    -- "closes the transaction; cause 43 also deactivates its bearer", and so 6 is idle
+    ∷ turn (reject 9 43) (closes 9) []
+    ∷ turn (start 9 6) (refuses 6) []
+    ∷ turn (activateDefault 7) (accepts 7) []
+    -- "always accept with the received identity"; "a default takes its connection along", here 8
+    ∷ turn (deactivate 6 0) (accepts 6) []
+    ∷ turn (deactivate 5 0) (accepts 5) []
+    ∷ []
 
 -- version 4, UDP, to this remote port
 abbrev udpTo : ℕ → Header
 udpTo port = record { version = 4; address = record { high = 0; low = 0 }; protocol = 17; local = 0; remote = port; index = 0; class = 0; label = 0 }
 
-abbrev way : RouteAnswer → ℕ
-way (Routed (Bearer bearer)) = bearer
-way (Routed Discard) = 100
-way (routeRefused refusal) = 200
-
--- bearers 5, 6 and 7; then "header version 4, protocol 17, remote port 5060 routes to 6; 5061 to 5"
 abbrev Sequence : Type 0
 Sequence =
-    (asNumber (roleAt (reached twoCalls) 0) ∷ asNumber (roleAt (reached twoCalls) 1) ∷ asNumber (roleAt (reached twoCalls) 2)
-    ∷ way (routeOf (reached twoCalls) 5 (udpTo 5060)) ∷ way (routeOf (reached twoCalls) 5 (udpTo 5061)) ∷ [])
-    ≡ (1 ∷ 5 ∷ 0 ∷ 6 ∷ 5 ∷ [])
+    let turns = opening ++ ending in
+    let sampled = reached (map called opening) in
+    (map told (replies emptyTable (map called turns)) ≡ map awaited turns)
+    -- "After the first sample, header version 4, protocol 17, remote port 5060 routes to 6; 5061 to 5."
+    × (sampled ≡ holding fiveAndSix 6 1 (udp (isPort 5060)))
+    × (routeOf sampled 5 (udpTo 5060) ≡ Routed (Bearer 6))
+    × (routeOf sampled 5 (udpTo 5061) ≡ Routed (Bearer 5))
+    × (reached (map called turns) ≡ with secondAlone)
 
 -- ---- Both are computed, by opening the definitions that they are said in
 computed : Samples × Sequence
-unfolding allBelow anyBelow picks tab pad every isIn repeats sameUnder beFrom excluded added built held wellCoded emptyPlace validHeader agreesTransport agreesNetwork fits sample fittable lengthOf componentOf contentsFrom contentsOf splitOf parameters restFits framedBy framedOf noFilters noMarks codedOf elementEntries twice inPlaces marked readValue readElement filterFine bearerFine transactionsApart transactionFrom distinctTransactions joined rowPrecedences connectionPrecedences distinctAt distinctPrecedences wellFormed opensAt isOpen closed ofConnection deletedIn holdsIn staysIn empties old takenBy takes conflict placed conflictIn loses placedIn losesAt conflictOnDefault follows released followers otherAt onlyConnection layWithin layOf headFine deletedFilters deletedTft modifyRead modifyNamed modifyOf run emptyTable activateDefaultOf activateRead activateNamed activateDedicatedOf lastBelow uplink placeHas bearerHas entryIn entryAt entriesOf filterOf entryFits firstFit uplinkAt hasUplink otherwiseOf routeOn routeOf
-computed = (refl, refl)
+unfolding allBelow anyBelow picks tab pad every isIn repeats sameUnder beFrom excluded added held wellCoded emptyPlace validHeader agreesTransport agreesNetwork fits sample fittable lengthOf componentOf contentsFrom contentsOf splitOf parameters restFits framedBy framedOf noFilters noMarks codedOf elementEntries twice inPlaces marked readValue readElement filterFine bearerFine transactionsApart transactionFrom distinctTransactions joined rowPrecedences connectionPrecedences distinctAt distinctPrecedences wellFormed opensAt isOpen closed ofConnection deletedIn holdsIn staysIn empties old takenBy takes conflict placed conflictIn loses placedIn losesAt conflictOnDefault follows released followers otherAt onlyConnection layWithin layOf headFine deletedFilters deletedTft modifyRead modifyNamed modifyOf dropped isAt ownerOf run replies emptyTable activateDefaultOf activateRead activateNamed activateDedicatedOf deactivateOf rejectOf startOf lastBelow uplink placeHas bearerHas entryIn entryAt entriesOf filterOf entryFits firstFit uplinkAt hasUplink otherwiseOf routeOn routeOf
+computed = (refl, (refl, refl, refl, refl, refl))
 
 pub samples : Samples
 samples = computed .0

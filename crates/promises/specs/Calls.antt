@@ -1,4 +1,4 @@
--- The six calls on a table, as values, and a sequence of them.
+-- The six calls on a table, as values, and a sequence of them; the numbers that may be given.
 use Prim.Native.Nat.{ℕ, _^_, _<_}
 use mathlib.Core.Bool.{not, _&&_}
 use mathlib.Core.List.{List, [], _∷_}
@@ -8,6 +8,7 @@ use Rattle.element.specs.Meaning.{Octet}
 use Rattle.table.specs.declared.bearer.Table.{Table}
 use Rattle.table.specs.Bearers.{emptyTable}
 use Rattle.table.specs.WellFormed.{wellFormed}
+use Rattle.calls.specs.declared.reply.Reply.{Reply}
 use Rattle.calls.specs.declared.reply.Outcome.{Outcome}
 use Rattle.calls.specs.Steps.{closed}
 use Rattle.calls.specs.Modify.{mismatch, modifyOf}
@@ -36,6 +37,11 @@ unfoldable pub run : Table → List Call → Table
 run t [] = t
 run t (c ∷ cs) = run (outcomeOf t c .table) cs
 
+-- what each call of a sequence replies, on the table that the calls before it left: the answer, and the follow-up list
+unfoldable pub replies : Table → List Call → List Reply
+replies t [] = []
+replies t (c ∷ cs) = outcomeOf t c .reply ∷ replies (outcomeOf t c .table) cs
+
 abbrev pub reached : List Call → Table
 reached cs = run emptyTable cs
 
@@ -48,14 +54,31 @@ Sent (deactivate bearer transaction) = Unit {0}
 Sent (reject transaction cause) = Unit {0}
 Sent (start transaction bearer) = transaction < 2 ^ 8
 
--- "Numbers given", of those that a call may give; 0 where nothing is refused
+-- "Numbers given", of those that a message may give; 0 where nothing is refused
+abbrev pub messageNumbers : List ℕ
+messageNumbers = 0 ∷ 1 ∷ 41 ∷ 42 ∷ 43 ∷ 44 ∷ 45 ∷ 47 ∷ []
+
+-- .. and any call
 abbrev pub numbersOf : Call → List ℕ
 numbersOf (activateDefault bearer) = 0 ∷ 1 ∷ 43 ∷ []
-numbersOf (activateDedicated bearer link transaction value) = 0 ∷ 1 ∷ 41 ∷ 42 ∷ 43 ∷ 44 ∷ 45 ∷ 47 ∷ []
-numbersOf (modify bearer transaction value) = 0 ∷ 1 ∷ 41 ∷ 42 ∷ 43 ∷ 44 ∷ 45 ∷ 47 ∷ []
+numbersOf (activateDedicated bearer link transaction value) = messageNumbers
+numbersOf (modify bearer transaction value) = messageNumbers
 numbersOf (deactivate bearer transaction) = 0 ∷ 1 ∷ []
 numbersOf (reject transaction cause) = 0 ∷ 1 ∷ 3 ∷ []
 numbersOf (start transaction bearer) = 0 ∷ 1 ∷ 4 ∷ 5 ∷ 6 ∷ 7 ∷ []
+
+-- .. those that the reader, the writer, the answer to any call and a route may have
+abbrev pub readerNumbers : List ℕ
+readerNumbers = 0 ∷ 42 ∷ 44 ∷ 45 ∷ []
+
+abbrev pub writerNumbers : List ℕ
+writerNumbers = 0 ∷ 10 ∷ 11 ∷ 9 ∷ []
+
+abbrev pub replyNumbers : List ℕ
+replyNumbers = 0 ∷ 1 ∷ 3 ∷ 4 ∷ 5 ∷ 6 ∷ 7 ∷ 41 ∷ 42 ∷ 43 ∷ 44 ∷ 45 ∷ 47 ∷ []
+
+abbrev pub routeNumbers : List ℕ
+routeNumbers = 0 ∷ 1 ∷ 8 ∷ 2 ∷ []
 
 -- the table as a refusal leaves it: "A match is closed, whatever follows."
 abbrev pub matchedIn : Table → ℕ → Table
