@@ -1,9 +1,9 @@
 -- DEMAND 1. Every table, message, header and byte string gets an answer from document 01's list. A refusal gives its number and leaves the table
 -- and lent bytes unchanged (a transaction matched at step 2 is still closed). No caller has to check first.
 -- Assumes nothing.
-use mathlib.Core.Path.{_≡_, refl}
+use mathlib.Core.Path.{_≡_, refl, _∙_, ap}
 use mathlib.Core.Bool.{Bool, true, false}
-use mathlib.Core.List.{List, [], _∷_}
+use mathlib.Core.List.{List}
 use Prim.Native.Nat.{ℕ}
 use lib.Dec.{leb}
 use lib.ListN.{length}
@@ -14,20 +14,37 @@ use Rattle.element.specs.declared.answer.Cause.the-variants.{Operation, Semanti
 use Rattle.element.specs.declared.answer.Answer.{Answer}
 use Rattle.element.specs.declared.answer.Answer.the-variants.{Filters, Identifiers, Bare, Refused}
 use Rattle.element.specs.declared.answer.Element.{Element}
-use Rattle.element.specs.Numbers.{causeNumber, numberOf, writtenNumber}
+use Rattle.element.specs.declared.entries.Handed.{Handed}
+use Rattle.element.specs.declared.entries.Handed.the-variants.{Filter, Identifier, Refused as refusedAtOnce, End}
+use Rattle.element.specs.declared.write.Unwritten.the-variants.{NotGiven, TooLong, NoRoom}
+use Rattle.element.specs.declared.write.Written.{Written}
+use Rattle.element.specs.declared.write.Written.the-variants.{Wrote, Refused as refusedTo}
+use Rattle.element.specs.Numbers.{causeNumber, numberOf, handedNumber, writtenNumber}
 use Rattle.element.specs.Read.{readElement}
+use Rattle.element.specs.Entries.{nthOf, firstOffset, lookAt, afterAll}
 use Rattle.element.specs.Write.{octetsOf, given, writtenBy, writeOf}
+use Rattle.element.proofs.Stepping.{nth-steps, nth-number}
 use Rattle.table.specs.declared.bearer.Table.{Table}
+use Rattle.table.specs.Ranges.{TableInRange}
 use Rattle.table.specs.WellFormed.{wellFormed}
+use Rattle.calls.specs.declared.reply.Cause.the-variants.{TftSemantics, TftSyntax, BearerIdentity, FilterSemantics, FilterSyntax, Transaction}
+use Rattle.calls.specs.declared.reply.Refusal.the-variants.{NotWellFormed as notWellFormed, NotOpen, NoIdentity, AlreadyOpen, NoBearer, BearerBusy}
+use Rattle.calls.specs.declared.reply.Answer.{Answer as CallAnswer}
+use Rattle.calls.specs.declared.reply.Answer.the-variants.{Accept, Reject, Release, Reattach, Started, Closed, Refused as callRefused}
+use Rattle.calls.specs.Reply.{numberOf as callNumber}
 use Rattle.calls.specs.Modify.{malformed}
-use Rattle.calls.specs.Changes.{RefusalLeaves, Gives}
+use Rattle.calls.specs.Changes.{Sound, RefusalLeaves, Gives, MatchClosed}
+use Rattle.calls.specs.Checks.{Open, LeftBy}
+use Rattle.calls.proofs.Closing.{modify-match, activate-match, left-says}
 use Rattle.calls.proofs.Answers.{modify-gives, activate-dedicated-gives, activate-default-gives, deactivate-gives, reject-gives, start-gives}
 use Rattle.calls.proofs.Theorems.{activate-default-malformed, activate-dedicated-malformed, modify-malformed, deactivate-malformed, reject-malformed, start-malformed, modify-refused, activate-dedicated-refused, activate-default-refused, deactivate-refused, reject-refused, start-refused}
 use Rattle.route.specs.declared.answer.Answer.{Answer as RouteAnswer}
 use Rattle.route.specs.declared.answer.Answer.the-variants.{Routed, Refused as routeRefused}
 use Rattle.route.specs.declared.answer.Refusal.the-variants.{NotWellFormed, NoDefault, InvalidHeader}
 use Rattle.route.specs.Routes.{numberOf as routeNumber, routeOf}
-use Rattle.promises.specs.Calls.{Call, activateDefault, activateDedicated, modify, deactivate, reject, start, outcomeOf, numbersOf, leftBy}
+use Rattle.promises.specs.Calls.{Call, activateDefault, activateDedicated, modify, deactivate, reject, start, outcomeOf, matchedIn, leftBy}
+use Rattle.promises.specs.Messages.{Message, modifies, activates, transactionOf, withoutTransaction, handled}
+use Rattle.promises.specs.Calls.{numbersOf, readerNumbers, writerNumbers, replyNumbers, routeNumbers}
 
 -- "Every table, message .. gets an answer from document 01's list": of the numbers given, those of the call
 pub call-answers : (t : Table) (c : Call) → Gives (numbersOf c) (outcomeOf t c)
@@ -38,32 +55,86 @@ call-answers t (deactivate bearer transaction) = deactivate-gives t bearer trans
 call-answers t (reject transaction cause) = reject-gives t transaction cause
 call-answers t (start transaction bearer) = start-gives t transaction bearer
 
--- ".. header .."
-pub route-answers : (t : Table) (default : ℕ) (h : Header) → isIn (routeNumber (routeOf t default h)) (0 ∷ 1 ∷ 8 ∷ 2 ∷ []) ≡ true
+-- ---- "an answer from document 01's list": every value of an answer's type has a number of the list, so no function that gives an answer, or the number
+-- of one, gives any other
+cause-numbers : (c : Cause) → isIn (causeNumber c) readerNumbers ≡ true
 unfolding isIn
-route-answers t default h = go (routeOf t default h)
-  where
-    go : (a : RouteAnswer) → isIn (routeNumber a) (0 ∷ 1 ∷ 8 ∷ 2 ∷ []) ≡ true
-    go (Routed route) = refl
-    go (routeRefused NotWellFormed) = refl
-    go (routeRefused NoDefault) = refl
-    go (routeRefused InvalidHeader) = refl
+cause-numbers Operation = refl
+cause-numbers Semantics = refl
+cause-numbers Coding = refl
+
+pub read-numbers : (a : Answer) → isIn (numberOf a) readerNumbers ≡ true
+unfolding isIn
+read-numbers (Filters operation) = refl
+read-numbers Identifiers = refl
+read-numbers (Bare operation) = refl
+read-numbers (Refused refusal) = cause-numbers (refusal .cause)
+
+pub handed-numbers : (h : Handed) → isIn (handedNumber h) readerNumbers ≡ true
+unfolding isIn
+handed-numbers (Filter identifier f) = refl
+handed-numbers (Identifier identifier) = refl
+handed-numbers (refusedAtOnce refusal) = cause-numbers (refusal .cause)
+handed-numbers End = refl
+
+pub written-numbers : (w : Written) → isIn (writtenNumber w) writerNumbers ≡ true
+unfolding isIn
+written-numbers (Wrote n) = refl
+written-numbers (refusedTo NotGiven) = refl
+written-numbers (refusedTo TooLong) = refl
+written-numbers (refusedTo NoRoom) = refl
+
+pub reply-numbers : (a : CallAnswer) → isIn (callNumber a) replyNumbers ≡ true
+unfolding isIn
+reply-numbers (Accept bearer) = refl
+reply-numbers (Reject bearer TftSemantics) = refl
+reply-numbers (Reject bearer TftSyntax) = refl
+reply-numbers (Reject bearer BearerIdentity) = refl
+reply-numbers (Reject bearer FilterSemantics) = refl
+reply-numbers (Reject bearer FilterSyntax) = refl
+reply-numbers (Reject bearer Transaction) = refl
+reply-numbers (Release default) = refl
+reply-numbers Reattach = refl
+reply-numbers (Started transaction) = refl
+reply-numbers (Closed transaction) = refl
+reply-numbers (callRefused notWellFormed) = refl
+reply-numbers (callRefused NotOpen) = refl
+reply-numbers (callRefused NoIdentity) = refl
+reply-numbers (callRefused AlreadyOpen) = refl
+reply-numbers (callRefused NoBearer) = refl
+reply-numbers (callRefused BearerBusy) = refl
+
+pub routed-numbers : (a : RouteAnswer) → isIn (routeNumber a) routeNumbers ≡ true
+unfolding isIn
+routed-numbers (Routed route) = refl
+routed-numbers (routeRefused NotWellFormed) = refl
+routed-numbers (routeRefused NoDefault) = refl
+routed-numbers (routeRefused InvalidHeader) = refl
+
+-- ".. header .."
+pub route-answers : (t : Table) (default : ℕ) (h : Header) → isIn (routeNumber (routeOf t default h)) routeNumbers ≡ true
+route-answers t default h = routed-numbers (routeOf t default h)
 
 -- ".. and byte string": the reader's causes
-pub element-answers : (value : List ℕ) → isIn (numberOf (readElement value .answer)) (0 ∷ 42 ∷ 44 ∷ 45 ∷ []) ≡ true
-unfolding isIn
-element-answers value = go (readElement value .answer)
-  where
-    cause : (c : Cause) → isIn (causeNumber c) (0 ∷ 42 ∷ 44 ∷ 45 ∷ []) ≡ true
-    cause Operation = refl
-    cause Semantics = refl
-    cause Coding = refl
+pub element-answers : (value : List ℕ) → isIn (numberOf (readElement value .answer)) readerNumbers ≡ true
+element-answers value = read-numbers (readElement value .answer)
 
-    go : (a : Answer) → isIn (numberOf a) (0 ∷ 42 ∷ 44 ∷ 45 ∷ []) ≡ true
-    go (Filters operation) = refl
-    go Identifiers = refl
-    go (Bare operation) = refl
-    go (Refused refusal) = cause (refusal .cause)
+-- .. the reader that hands out entries, at whatever offset; entry n, and what comes after n steps from the beginning, has the number that the reader gives
+pub entry-answers : (value : List ℕ) (at : ℕ) → isIn (handedNumber (lookAt value at)) readerNumbers ≡ true
+entry-answers value at = handed-numbers (lookAt value at)
+
+pub nth-answers : (value : List ℕ) (n : ℕ) → isIn (handedNumber (nthOf value n)) readerNumbers ≡ true
+nth-answers value n = handed-numbers (nthOf value n)
+
+pub nth-is-readers : (value : List ℕ) (n : ℕ) → handedNumber (nthOf value n) ≡ numberOf (readElement value .answer)
+nth-is-readers = nth-number
+
+pub stepped-is-readers : (value : List ℕ) (n : ℕ) → handedNumber (lookAt value (afterAll value (firstOffset value) n)) ≡ numberOf (readElement value .answer)
+stepped-is-readers value n = ap handedNumber (nth-steps value n) ∙ nth-number value n
+
+-- .. and the writer, which is lent a buffer
+pub writer-answers : (e : Element) (buffer : List ℕ) → isIn (writtenNumber (writeOf e buffer .written)) writerNumbers ≡ true
+writer-answers e buffer = written-numbers (writeOf e buffer .written)
 
 -- "A refusal gives its number and leaves the table .. unchanged (a transaction matched at step 2 is still closed)"
 pub refusal-leaves : (t : Table) (c : Call) → RefusalLeaves (leftBy t c) (outcomeOf t c)
@@ -74,7 +145,18 @@ refusal-leaves t (deactivate bearer transaction) = deactivate-refused t bearer t
 refusal-leaves t (reject transaction cause) = reject-refused t transaction cause
 refusal-leaves t (start transaction bearer) = start-refused t transaction bearer
 
--- "1: table not well formed .. leaves all"
+-- "A match is closed, whatever follows", of a message that is refused or is not: no bearer has the transaction open afterwards, and closing changed
+-- nothing else, since what follows is what the message does without a transaction in a table that is the same but for it
+pub match-closed : (t : Table) → Sound t → (m : Message) → Open t (transactionOf m)
+    → MatchClosed t (transactionOf m) (handled m t) (handled (withoutTransaction m))
+match-closed t k (modifies bearer transaction value) = modify-match t k bearer transaction value
+match-closed t k (activates bearer link transaction value) = activate-match t k bearer link transaction value
+
+-- what `leftBy` computes for a message, in types: the match is closed and nothing else changed, or there is none and the table is as it came
+pub left-by-types : (t : Table) → TableInRange t → (transaction : ℕ) → LeftBy t transaction (matchedIn t transaction)
+left-by-types = left-says
+
+-- 1: "table not well formed"; it leaves "all"
 pub malformed-leaves : (t : Table) (c : Call) → wellFormed t ≡ false → outcomeOf t c ≡ malformed t
 malformed-leaves t (activateDefault bearer) e = activate-default-malformed t e bearer
 malformed-leaves t (activateDedicated bearer link transaction value) e = activate-dedicated-malformed t e bearer link transaction value
@@ -83,17 +165,7 @@ malformed-leaves t (deactivate bearer transaction) e = deactivate-malformed t e 
 malformed-leaves t (reject transaction cause) e = reject-malformed t e transaction cause
 malformed-leaves t (start transaction bearer) e = start-malformed t e transaction bearer
 
--- ".. and lent bytes unchanged": the writer gives 0, 10, 11 or 9, and where it refuses the buffer is as it was
-pub writer-answers : (e : Element) (buffer : List ℕ) → isIn (writtenNumber (writeOf e buffer .written)) (0 ∷ 10 ∷ 11 ∷ 9 ∷ []) ≡ true
-unfolding writeOf isIn
-writer-answers e buffer = go (given e) (leb (length (octetsOf e)) 255) (leb (length (octetsOf e)) (length buffer))
-  where
-    go : (b c d : Bool) → isIn (writtenNumber (writtenBy b c d e buffer .written)) (0 ∷ 10 ∷ 11 ∷ 9 ∷ []) ≡ true
-    go true true true = refl
-    go true true false = refl
-    go true false d = refl
-    go false c d = refl
-
+-- ".. and lent bytes unchanged": where the writer refuses, the buffer is as it was
 pub writer-leaves : (e : Element) (buffer : List ℕ) → (writtenNumber (writeOf e buffer .written) ≡ 0 → ⊥) → writeOf e buffer .buffer ≡ buffer
 unfolding writeOf
 writer-leaves e buffer = go (given e) (leb (length (octetsOf e)) 255) (leb (length (octetsOf e)) (length buffer))

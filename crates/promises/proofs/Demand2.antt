@@ -3,52 +3,126 @@
 -- That a function's outcome is its definition's is the function's contract; crates/*/specs has the definitions, under the sentences that they write down.
 -- Assumes nothing.
 use mathlib.Core.Path.{_≡_}
+use mathlib.Core.Logic.{_⊎_, _↔_}
 use mathlib.Core.List.{List}
-use Prim.Native.Nat.{ℕ}
-use lib.ListN.{take}
+use Prim.Native.Nat.{ℕ, _<_, _≤_}
+use lib.ListN.{length, take}
 use Rattle.laws.specs.Says.{Says}
 use Rattle.laws.specs.Lists.{All}
 use Rattle.filter.specs.declared.component.Filter.{Filter}
+use Rattle.filter.specs.declared.packet.Header.{Header}
 use Rattle.filter.specs.Fittable.{fittable, SomePacketFits}
 use Rattle.filter.specs.Ranges.{FilterInRange}
 use Rattle.filter.proofs.Theorems.{fittable-says}
-use Rattle.element.specs.declared.answer.Cause.the-variants.{Semantics}
 use Rattle.element.specs.declared.answer.Element.{Element}
 use Rattle.element.specs.declared.write.Written.the-variants.{Wrote}
-use Rattle.element.specs.Read.{refused, readElement}
-use Rattle.element.specs.Write.{given, writeOf}
-use Rattle.element.specs.Meaning.{Octet, ElementInRange, ReadsAs, SomeFilterUnfit}
-use Rattle.element.proofs.Theorems.{written-reads, given-says, unfit-says}
+use Rattle.element.specs.Head.{longest}
+use Rattle.element.specs.Numbers.{numberOf as readNumber, writtenNumber}
+use Rattle.element.specs.Framing.{framedOf}
+use Rattle.element.specs.Read.{readElement}
+use Rattle.element.specs.Write.{octetsOf, writeOf}
+use Rattle.element.specs.Meaning.{Octet, ElementInRange, ReadsAs, TooLongOrUnframed, SomeFilterBadlyCoded, SomeFilterUnfit, SomethingTwice}
+use Rattle.element.specs.Order.{InOrder}
+use Rattle.element.proofs.Theorems.{reader-42, reader-44, reader-45, writer-10, writer-11, writer-9, written-reads, writer-order}
 use Rattle.table.specs.declared.bearer.Table.{Table}
 use Rattle.table.specs.Ranges.{TableInRange}
 use Rattle.table.specs.WellFormed.{wellFormed, WellFormed}
 use Rattle.table.proofs.Meaning.{well-says}
-use Rattle.calls.specs.Modify.{modifyOf}
-use Rattle.calls.specs.Changes.{Notes}
-use Rattle.calls.proofs.Laying.{modify-follow}
+use Rattle.calls.specs.declared.reply.Answer.the-variants.{Accept}
+use Rattle.calls.specs.Changes.{FollowUpList, Releases, NamedBearer}
+use Rattle.calls.specs.Reply.{numberOf}
+use Rattle.calls.proofs.Checks.{modify-numbers, activate-numbers, activate-default-numbers, deactivate-numbers, reject-numbers, start-numbers}
+use Rattle.calls.proofs.Release.{modify-releases, activate-releases, modify-follow, activate-follow}
+use Rattle.calls.proofs.Named.{modify-named-bearer, activate-named-bearer}
+use Rattle.promises.specs.Messages.{Message, modifies, activates, bearerNamed, transactionOf, valueOf, handled, numberGiven, Passes, MessageNumbered, CallNumbered, connectionFor, roleFor}
+use Rattle.promises.specs.Calls.{Call, activateDefault, activateDedicated, modify, deactivate, reject, start, outcomeOf}
+use Rattle.route.specs.Routes.{numberOf as routeNumber, routeOf}
+use Rattle.route.specs.Rule.{RouteNumbered}
+use Rattle.route.proofs.Theorems.{route-numbers}
 
 -- "Any other table is refused": the test is true exactly for the well-formed tables, said as a type
 pub well-formed-tables : (t : Table) → TableInRange t → Says (wellFormed t) (WellFormed t)
 well-formed-tables = well-says
 
--- "follow-up list": exactly the dedicated bearers of the connection that lose a filter to a conflict, the named one included, in rising identity
-pub follow-up-list : (t : Table) → TableInRange t → (bearer transaction : ℕ) (value : List ℕ) → Notes t bearer value (modifyOf t bearer transaction value)
-follow-up-list = modify-follow
+-- ---- Of a modify message and of a dedicated activation, on any table
+-- "cause": each number of document 01's order of checks is given exactly where its step refuses, and no step before it does
+pub message-numbers : (t : Table) → TableInRange t → (m : Message) → MessageNumbered t m (numberGiven t m)
+message-numbers t r (modifies bearer transaction value) = modify-numbers t r bearer transaction value
+message-numbers t r (activates bearer link transaction value) = activate-numbers t r bearer link transaction value
 
+-- .. and so of the other calls, and of a route
+pub numbers-given : (t : Table) → TableInRange t → (c : Call) → CallNumbered t c (numberOf (outcomeOf t c .reply .answer))
+numbers-given t r (activateDefault bearer) = activate-default-numbers t r bearer
+numbers-given t r (activateDedicated bearer link transaction value) = message-numbers t r (activates bearer link transaction value)
+numbers-given t r (modify bearer transaction value) = message-numbers t r (modifies bearer transaction value)
+numbers-given t r (deactivate bearer transaction) = deactivate-numbers t r bearer transaction
+numbers-given t r (reject transaction cause) = reject-numbers t r transaction cause
+numbers-given t r (start transaction bearer) = start-numbers t r transaction bearer
+
+pub route-numbers-given : (t : Table) → TableInRange t → (default : ℕ) (h : Header) → RouteNumbered t default h (routeNumber (routeOf t default h))
+route-numbers-given t r default h = route-numbers t default h r
+
+-- "cause 44 exactly when some well-coded filter fits no packet", where no earlier check refuses: the table is well formed, steps 2 to 5 pass, the value is
+-- framed, every filter in it is well coded, and some filter of it fits no packet
+pub cause-44 : (t : Table) → TableInRange t → (m : Message) → All Octet (valueOf m) → (numberGiven t m ≡ 44) ↔ (Passes t m × SomeFilterUnfit (valueOf m))
+cause-44 t r m octets =
+    let number = message-numbers t r m .is44 in
+    let reader = reader-44 (valueOf m) octets in
+    (λ e. let h = number .0 e in (h .0, reader .0 (h .1)), λ h. number .1 (h .0, reader .1 (h .1)))
+
+-- a filter is told fittable exactly when there is a valid header, every number in its type's range, that it fits
+pub some-packet : (f : Filter) → FilterInRange f → Says (fittable f) (SomePacketFits f)
+some-packet = fittable-says
+
+-- "new table", of the bearer that an accepted message names; of the others it is `unnamed-bearer` (Demand3)
+pub named-bearer : (t : Table) → TableInRange t → (m : Message) → handled m t .reply .answer ≡ Accept (bearerNamed m)
+    → NamedBearer t (roleFor t m) (connectionFor t m) (bearerNamed m) (transactionOf m) (valueOf m) (handled m t .table)
+named-bearer t r (modifies bearer transaction value) = modify-named-bearer t r bearer transaction value
+named-bearer t r (activates bearer link transaction value) = activate-named-bearer t r bearer link transaction value
+
+-- "follow-up list": exactly the dedicated bearers of the connection that lose a filter to a conflict, the named one included, in rising identity
+pub follow-up-list : (t : Table) → TableInRange t → (m : Message) → FollowUpList t (connectionFor t m) (bearerNamed m) (valueOf m) (handled m t)
+follow-up-list t r (modifies bearer transaction value) = modify-follow t r bearer transaction value
+follow-up-list t r (activates bearer link transaction value) = activate-follow t r bearer link transaction value
+
+-- "reply": a refusal is a reject with the received identity, or 1 without a reply; what is not refused releases exactly at a conflict on the default, and
+-- else is accepted. And what a release does to the connection and to the others
+pub message-releases : (t : Table) → TableInRange t → (m : Message)
+    → Releases t (connectionFor t m) (bearerNamed m) (transactionOf m) (valueOf m) (handled m t)
+message-releases t r (modifies bearer transaction value) = modify-releases t r bearer transaction value
+message-releases t r (activates bearer link transaction value) = activate-releases t r bearer link transaction value
+
+-- ---- Of the reader
+-- its numbers, over all octets: steps 4 and 6; steps 7 and 9; step 8
+pub reads-42 : (value : List ℕ) → (readNumber (readElement value .answer) ≡ 42) ↔ TooLongOrUnframed value
+reads-42 = reader-42
+
+pub reads-45 : (value : List ℕ) → All Octet value → (readNumber (readElement value .answer) ≡ 45) ↔ (SomeFilterBadlyCoded value ⊎ SomethingTwice value)
+reads-45 = reader-45
+
+pub reads-44 : (value : List ℕ) → All Octet value → (readNumber (readElement value .answer) ≡ 44) ↔ SomeFilterUnfit value
+reads-44 = reader-44
+
+-- ---- Of the writer
 -- "an operation written and read again is the same"
 pub written-and-read : (e : Element) → ElementInRange e → (buffer : List ℕ) (n : ℕ) → writeOf e buffer .written ≡ Wrote n
     → readElement (take n (writeOf e buffer .buffer)) ≡ e
 written-and-read e r buffer n = written-reads e r buffer n
 
--- the writer's 10, "operation that the reader could not give, its length in octets aside"
-pub writer-takes : (e : Element) → ElementInRange e → Says (given e) (ReadsAs e)
-writer-takes = given-says
+-- "The writer puts filters in rising identifier and components in rising type."
+pub written-in-order : (e : Element) → ElementInRange e → (buffer : List ℕ) (n : ℕ) → writeOf e buffer .written ≡ Wrote n
+    → InOrder (framedOf (take n (writeOf e buffer .buffer)))
+written-in-order = writer-order
 
--- "cause 44 exactly when some well-coded filter fits no packet"
-pub cause-44 : (value : List ℕ) → All Octet value
-    → (readElement value ≡ refused Semantics → SomeFilterUnfit value) × (SomeFilterUnfit value → readElement value ≡ refused Semantics)
-cause-44 = unfit-says
+module _ (e : Element) (r : ElementInRange e) (buffer : List ℕ) where
+  -- 10: "operation that the reader could not give, its length in octets aside"
+  pub writes-10 : (writtenNumber (writeOf e buffer .written) ≡ 10) ↔ (ReadsAs e → ⊥)
+  writes-10 = writer-10 e r buffer
 
--- a filter is told fittable exactly when there is a valid header, every number in its type's range, that it fits
-pub some-packet : (f : Filter) → FilterInRange f → Says (fittable f) (SomePacketFits f)
-some-packet = fittable-says
+  -- 11: "value above 255 octets", of an operation that the reader gives
+  pub writes-11 : (writtenNumber (writeOf e buffer .written) ≡ 11) ↔ (ReadsAs e × (longest < length (octetsOf e)))
+  writes-11 = writer-11 e r buffer
+
+  -- 9: "buffer too short", where neither holds
+  pub writes-9 : (writtenNumber (writeOf e buffer .written) ≡ 9) ↔ ((ReadsAs e × (length (octetsOf e) ≤ longest)) × (length buffer < length (octetsOf e)))
+  writes-9 = writer-9 e r buffer

@@ -23,10 +23,9 @@ use Rattle.table.specs.Bearers.{bearerCount, identityOf, emptyTable, filterAt, 
 use Rattle.table.specs.Ranges.{BearerInRange, TableInRange}
 use Rattle.table.specs.WellFormed.{filterFine, bearerFine, transactionsApart, transactionFrom, distinctTransactions, distinctAt, distinctPrecedences, wellFormed, Held}
 use Rattle.table.proofs.Meaning.{well-says}
-use Rattle.calls.specs.Modify.{modifyOf}
 use Rattle.calls.specs.Changes.{Sound, Unnamed}
 use Rattle.calls.proofs.Whole.{activate-default-sound, activate-dedicated-sound, modify-sound, deactivate-sound, reject-sound, start-sound}
-use Rattle.calls.proofs.Laying.{modify-unnamed}
+use Rattle.calls.proofs.Release.{modify-unnamed, activate-unnamed}
 use Rattle.route.specs.declared.answer.Route.{Route}
 use Rattle.route.specs.declared.answer.Answer.the-variants.{Routed}
 use Rattle.route.specs.Lists.{listOf}
@@ -34,6 +33,7 @@ use Rattle.route.specs.Routes.{routeOn, routeOf}
 use Rattle.route.specs.Rule.{Right}
 use Rattle.route.proofs.Theorems.{route-right, right-one, route-says}
 use Rattle.promises.specs.Calls.{Call, activateDefault, activateDedicated, modify, deactivate, reject, start, Sent, outcomeOf, run, reached}
+use Rattle.promises.specs.Messages.{Message, modifies, activates, bearerNamed, transactionOf, valueOf, handled, connectionFor}
 
 -- ---- "After any sequence of calls from the empty table", refused ones among them, the table is well formed
 empty-in-range : TableInRange emptyTable
@@ -65,7 +65,7 @@ pub reached-sound : (cs : List Call) → All Sent cs → Sound (reached cs)
 reached-sound = run-sound emptyTable (record { inRange = empty-in-range; well = well-says emptyTable empty-in-range .to empty-well })
 
 module _ (cs : List Call) (sent : All Sent cs) where
-  -- .. by the test too: no call of the sequence is answered with 1
+  -- .. by the test too, so that no call that follows is answered with 1 (`numbers-given`)
   pub reached-well : wellFormed (reached cs) ≡ true
   reached-well = let k = reached-sound cs sent in well-says (reached cs) (k .inRange) .from (k .well)
 
@@ -87,8 +87,9 @@ module _ (cs : List Call) (sent : All Sent cs) where
       → (r : Route) → (routeOf (reached cs) default h ≡ Routed r) ↔ Right (reached cs) default h r
   route-by-rule default h d v = route-says (reached cs) default h (reached-sound cs sent .inRange) reached-well d v
 
-  -- "A bearer that a modify doesn't name changes only in the three ways listed": it stays, its transaction perhaps closed; it loses exactly the filters
-  -- whose precedence a new filter takes; or it goes with its released connection
-  pub unnamed-bearer : (bearer transaction : ℕ) (value : List ℕ) (i : ℕ) → i < bearerCount → (identityOf i ≡ bearer → ⊥)
-      → Unnamed (reached cs) bearer transaction (readElement value .filters) (modifyOf (reached cs) bearer transaction value) i
-  unnamed-bearer bearer transaction value i l = modify-unnamed (reached cs) (reached-sound cs sent .inRange) bearer transaction value i l
+-- ---- "A bearer that a modify doesn't name changes only in the three ways listed", on any table: it stays, its transaction perhaps closed; it loses exactly
+-- the filters whose precedence a new filter takes; or it goes with its released connection. So it is of a dedicated activation
+pub unnamed-bearer : (t : Table) → TableInRange t → (m : Message) (i : ℕ) → i < bearerCount → (identityOf i ≡ bearerNamed m → ⊥)
+    → Unnamed t (connectionFor t m) (bearerNamed m) (transactionOf m) (readElement (valueOf m) .filters) (handled m t) i
+unnamed-bearer t r (modifies bearer transaction value) = modify-unnamed t r bearer transaction value
+unnamed-bearer t r (activates bearer link transaction value) = activate-unnamed t r bearer link transaction value
