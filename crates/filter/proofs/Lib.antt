@@ -1,4 +1,5 @@
 pub mod Adding
+pub mod Asked
 pub mod Empty
 pub mod Examples
 pub mod Holding

@@ -2,13 +2,13 @@
 use mathlib.Core.Path.{_≡_, refl}
 use mathlib.Core.Bool.{Bool, true, false, _||_}
 use mathlib.Core.List.{List, [], _∷_}
-use mathlib.Core.Logic.{_⊎_, inl, inr, ⊎-elim}
+use mathlib.Core.Logic.{_⊎_, inl, inr}
 use Prim.Native.Nat.{ℕ, _^_, _<_, _≤_}
 use native.Mathlib.Omega.{arith}
 use borrow.Author.Tests.{le-leb, ltb-false}
 use Rattle.laws.specs.Says.{pick, Says}
 use Rattle.laws.proofs.Says.{says-so}
-use Rattle.laws.proofs.Tests.{both, either, or-left, or-right, neither}
+use Rattle.laws.proofs.Tests.{both, neither}
 use Rattle.filter.specs.declared.component.RemoteAddress.{RemoteAddress}
 use Rattle.filter.specs.declared.component.RemoteAddress.the-variants.{Absent as noAddress, V4, V6}
 use Rattle.filter.specs.declared.component.Protocol.{Protocol}
@@ -22,53 +22,18 @@ use Rattle.filter.specs.declared.component.Class.the-variants.{Absent as
 use Rattle.filter.specs.declared.component.Label.{Label}
 use Rattle.filter.specs.declared.component.Label.the-variants.{Absent as noLabel, Is as isLabel}
 use Rattle.filter.specs.declared.component.Filter.{Filter}
-use Rattle.filter.specs.declared.packet.Header.{Header}
-use Rattle.filter.specs.Component.{localPortType, localRangeType, remotePortType, remoteRangeType, typeOfLocal}
-use Rattle.filter.specs.Component.{typeOfRemote, typeOfIndex, present, largestLabel}
+use Rattle.filter.specs.Component.{largestLabel}
 use Rattle.filter.specs.Coding.{held, labelFits, wellCoded}
 use Rattle.filter.specs.Build.{Component, ipv4Remote, ipv6Remote, protocol, localPort, localRange, remotePort, remoteRange, index}
 use Rattle.filter.specs.Build.{class, label, typeOf, bare, put, excluded, tooLarge, added, built}
 use Rattle.filter.specs.Holding.{ExcludeEachOther, HeldOrExcluded}
-use Rattle.filter.specs.Fit.{validHeader, agreesAddress, agreesProtocol, agreesPort, agreesIndex, agreesClass, agreesLabel, agreesTransport, agreesNetwork, fits}
+use Rattle.filter.specs.Fit.{validHeader, fits}
 use Rattle.filter.specs.Ranges.{AddressInRange, HeaderInRange, RemoteInRange, ProtocolInRange, PortInRange, IndexInRange, ClassInRange, LabelInRange, FilterInRange}
 use Rattle.filter.specs.Fittable.{sampleVersion, sampleAddress, sampleProtocol, samplePort, sampleIndex, sampleClass, sampleLabel, sample, fittable, SomePacketFits}
 use Rattle.filter.proofs.Holding.{HeldInFamily, excluded-in-family, same-or-apart, apart-kin}
-use Rattle.filter.proofs.Samples.{version-right, protocol-right, port-wants, port-right, index-wants, index-right, class-right}
+use Rattle.filter.proofs.Asked.{any-asked, asked-fits}
 
 -- ---- A filter is told fittable exactly where some packet fits it.
--- every component agrees
-pub record Agrees (f : Filter) (h : Header) : Type 0 where
-  pub protocol : agreesProtocol (f .protocol) (h .protocol) ≡ true
-  pub local : agreesPort (f .local) (h .protocol) (h .local) ≡ true
-  pub remote : agreesPort (f .remote) (h .protocol) (h .remote) ≡ true
-  pub index : agreesIndex (f .index) (h .protocol) (h .index) ≡ true
-  pub address : agreesAddress (f .address) (h .version) (h .address) ≡ true
-  pub class : agreesClass (f .class) (h .class) ≡ true
-  pub label : agreesLabel (f .label) (h .version) (h .label) ≡ true
-
-pub agree : (f : Filter) (h : Header) → fits f h ≡ true → Agrees f h
-unfolding fits agreesTransport agreesNetwork
-agree f h e =
-    let all = both _ _ e in
-    let transport = both _ _ (all .0) in
-    let ports = both _ _ (transport .0) in
-    let first = both _ _ (ports .0) in
-    let network = both _ _ (all .1) in
-    let last = both _ _ (network .0) in
-    record {
-      protocol = first .0;
-      local = first .1;
-      remote = ports .1;
-      index = transport .1;
-      address = last .0;
-      class = last .1;
-      label = network .1;
-    }
-
-pub fits-all : (f : Filter) (h : Header) → Agrees f h → fits f h ≡ true
-unfolding fits agreesTransport agreesNetwork
-fits-all f h a = rw (a .protocol, a .local, a .remote, a .index, a .address, a .class, a .label)
-
 -- the sample's numbers are in range where the filter's are
 address-range : (a : RemoteAddress) → RemoteInRange a → AddressInRange (sampleAddress a)
 address-range noAddress r = record { high = omega arith; low = omega arith }
@@ -118,29 +83,6 @@ sample-range f r =
       label = label-range (f .label) (r .label);
     }
 
--- a filter that some packet fits, its sample fits
-sampled : (f : Filter) → SomePacketFits f → fittable f ≡ true
-unfolding fittable sample validHeader
-sampled f s =
-    let h = s .header in
-    let a = agree f h (s .agrees) in
-    let ports = present (typeOfLocal (f .local)) || present (typeOfRemote (f .remote)) in
-    let v = version-right (f .address) (f .label) (h .version) (h .address) (h .label) (a .address) (a .label) (s .valid) in
-    let p = protocol-right (f .protocol) ports (present (typeOfIndex (f .index))) (h .protocol) (a .protocol)
-    (λ t. ⊎-elim (port-wants localPortType localRangeType (f .local) (h .protocol) (h .local) (a .local)) (port-wants remotePortType remoteRangeType (f .remote) (h .protocol) (h .remote) (a .remote)) (either _ _ t))
-    (index-wants (f .index) (h .protocol) (h .index) (a .index)) in
-    rw (v .valid)
-    (fits-all f (sample f)
-    (record {
-      protocol = p .protocol;
-      local = port-right localPortType localRangeType refl refl (f .local) (h .protocol) (h .local) _ (a .local) (λ t. p .ports (or-left _ _ t));
-      remote = port-right remotePortType remoteRangeType refl refl (f .remote) (h .protocol) (h .remote) _ (a .remote) (λ t. p .ports (or-right (present (typeOfLocal (f .local))) _ t));
-      index = index-right (f .index) _ (p .index);
-      address = v .address;
-      class = class-right (f .class);
-      label = v .label;
-    }))
-
 pub fittable-says : (f : Filter) → FilterInRange f → Says (fittable f) (SomePacketFits f)
 unfolding fittable
 fittable-says f r =
@@ -148,7 +90,7 @@ fittable-says f r =
       to = λ e.
           let h = both (validHeader (sample f)) (fits f (sample f)) e in
           record { header = sample f; inRange = sample-range f r; valid = h .0; agrees = h .1 };
-      from = sampled f;
+      from = λ s. asked-fits f (any-asked f (s .header) (s .valid) (s .agrees));
     }
 
 -- ---- A filter built from the empty one is well coded as soon as it holds a component and its direction is at most 3.

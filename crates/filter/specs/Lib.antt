@@ -6,3 +6,4 @@ pub mod Holding
 pub mod Fit
 pub mod Ranges
 pub mod Fittable
+pub mod inner

@@ -15,7 +15,7 @@ use crate::component::label_type;
 use crate::component::port_type;
 use crate::component::protocol_type;
 
-const LARGEST_DIRECTION: u8 = 3;
+pub(crate) const LARGEST_DIRECTION: u8 = 3;
 
 pub fn held(filter: Filter) -> bool
     ensures { λ r. ⌜ r ≡ held filter ⌝ }
