@@ -1,8 +1,8 @@
 -- Lists of numbers joined from pieces: what is in them, and when none is there twice.
-use mathlib.Core.Path.{_≡_, refl, sym, _∙_, ap, subst}
+use mathlib.Core.Path.{_≡_, refl, sym, _∙_, ap, ap₂, subst}
 use mathlib.Core.Bool.{Bool, true, false, _||_, or-assoc}
 use mathlib.Core.Logic.{_⊎_, inl, inr, ⊎-elim}
-use mathlib.Core.List.{List, [], _∷_, _++_}
+use mathlib.Core.List.{List, [], _∷_, _++_, map}
 use Prim.Native.Nat.{ℕ, zero, suc, _<_}
 use native.Mathlib.Nat.{not-suc-le-zero}
 use native.Mathlib.Omega.{arith}
@@ -76,6 +76,23 @@ append-fresh (z ∷ xs) ys f =
       rest .1,
       λ x i j. ⊎-elim (λ e. never (in-right z xs ys (subst (λ (y : ℕ). In y ys) e j)) (h .0)) (λ k. rest .2 x k j) (in-cons x z xs i),
     )
+
+-- P of each number that is there
+pub all-in : (P : ℕ → Type 0) (xs : List ℕ) → ((x : ℕ) → In x xs → P x) → All P xs
+all-in P [] h = tt
+all-in P (x ∷ xs) h = (h x (in-head x xs), all-in P xs (λ y i. h y (in-tail y x xs i)))
+
+-- ---- each number under a name that no other has
+module _ (f : ℕ → ℕ) (apart : (x y : ℕ) → eqb (f x) (f y) ≡ eqb x y) where
+  pub named-in : (x : ℕ) (xs : List ℕ) → isIn (f x) (map f xs) ≡ isIn x xs
+  unfolding isIn
+  named-in x [] = refl
+  named-in x (y ∷ ys) = ap₂ _||_ (apart x y) (named-in x ys)
+
+  pub named-repeats : (xs : List ℕ) → repeats (map f xs) ≡ repeats xs
+  unfolding repeats
+  named-repeats [] = refl
+  named-repeats (x ∷ xs) = ap₂ _||_ (named-in x xs) (named-repeats xs)
 
 -- ---- the pieces below n, one after the other
 module _ (piece : ℕ → List ℕ) where

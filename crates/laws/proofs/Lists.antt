@@ -8,7 +8,7 @@ use native.Mathlib.Omega.{arith}
 use lib.ListN.{length, set, replicate, length-append}
 use lib.Seq.{set-at, append-snoc}
 use Rattle.laws.specs.Index.{tab}
-use Rattle.laws.specs.Lists.{All, every, Each}
+use Rattle.laws.specs.Lists.{All, every, fold, Each}
 use Rattle.laws.proofs.Index.{tab-length}
 use Rattle.laws.proofs.Tests.{both}
 
@@ -43,6 +43,12 @@ module _ {A : Type 0} (P : A → Type 0) where
 
   pub each-tab : (f : ℕ → A) (n : ℕ) → ((i : ℕ) → i < n → P (f i)) → Each P n (tab f n)
   each-tab f n h = record { count = tab-length f n; all = all-tab f n h }
+
+-- a fold over one list, then over another
+pub fold-append : {A B : Type 0} (f : B → A → B) (xs ys : List A) (s : B) → fold f s (xs ++ ys) ≡ fold f (fold f s xs) ys
+unfolding fold
+fold-append f [] ys s = refl
+fold-append f (x ∷ xs) ys s = fold-append f xs ys (f s x)
 
 module _ {A : Type 0} where
   -- a test that only one value passes, passed by each of n elements

@@ -1,32 +1,13 @@
--- Repeats by marks: a walk that marks each number as it comes finds a number marked already exactly where one is there twice.
+-- Repeats by marks: a walk that marks each number as it comes finds a number marked already exactly where one is there twice, however the marks are kept.
 use mathlib.Core.Path.{_≡_, refl, ap, ap₂, _∙_}
-use mathlib.Core.Bool.{Bool, true, false, _||_}
+use mathlib.Core.Bool.{Bool, true, false, _||_, or-false}
 use mathlib.Core.List.{List, [], _∷_}
 use Prim.Native.Nat.{ℕ, _<_}
-use native.Mathlib.Omega.{arith}
 use lib.Dec.{eqb}
 use lib.ListN.{length, getD, set, length-set, replicate, length-replicate, getD-replicate}
 use Rattle.laws.specs.Says.{pick}
 use Rattle.laws.specs.Lists.{All, isIn, repeats}
 use Rattle.laws.proofs.Index.{set-seen}
-
--- whether one was marked when it came; b: before these
-unfoldable pub again : List ℕ → List Bool → Bool → Bool
-again [] marks b = b
-again (x ∷ xs) marks b = again xs (set marks x true) (b || getD marks x false)
-
--- a number is marked after x was
-marks-set : (marks : List Bool) (x y : ℕ) → x < length marks → getD (set marks x true) y false ≡ eqb x y || getD marks y false
-marks-set marks x y l = set-seen marks x y true false (λ e. rw (← e) l) ∙ go (eqb x y) (getD marks y false)
-  where
-    go : (b m : Bool) → pick b true m ≡ b || m
-    go true m = refl
-    go false m = refl
-
--- some number is marked
-abbrev anyMarked : List ℕ → List Bool → Bool
-anyMarked [] marks = false
-anyMarked (x ∷ xs) marks = getD marks x false || anyMarked xs marks
 
 swap : (i m j a : Bool) → (i || m) || (a || j) ≡ (m || a) || (i || j)
 swap true true j a = refl
@@ -35,11 +16,6 @@ swap true false j false = refl
 swap false true j a = refl
 swap false false j true = refl
 swap false false j false = refl
-
-any-set : (xs : List ℕ) (marks : List Bool) (x : ℕ) → x < length marks → anyMarked xs (set marks x true) ≡ anyMarked xs marks || isIn x xs
-unfolding isIn
-any-set [] marks x l = refl
-any-set (y ∷ xs) marks x l = ap₂ _||_ (marks-set marks x y l) (any-set xs marks x l) ∙ swap (eqb x y) (getD marks y false) (isIn x xs) (anyMarked xs marks)
 
 turn : (b m r a i : Bool) → (b || m) || (r || (a || i)) ≡ b || ((i || r) || (m || a))
 turn true m r a i = refl
@@ -53,25 +29,64 @@ turn false false false true false = refl
 turn false false false false true = refl
 turn false false false false false = refl
 
-again-from : (n : ℕ) (xs : List ℕ) (marks : List Bool) (b : Bool) → length marks ≡ n → All (λ x. x < n) xs
-    → again xs marks b ≡ b || (repeats xs || anyMarked xs marks)
-unfolding again repeats
-again-from n [] marks true e h = refl
-again-from n [] marks false e h = refl
-again-from n (x ∷ xs) marks b e h =
-    let l : x < length marks = omega (arith, h .0) in
-    again-from n xs (set marks x true) (b || getD marks x false) (length-set marks x true ∙ e) (h .1)
-    ∙ ap (λ (t : Bool). (b || getD marks x false) || (repeats xs || t)) (any-set xs marks x l)
-    ∙ turn b (getD marks x false) (repeats xs) (anyMarked xs marks) (isIn x xs)
+-- marks kept as an S: `has` tells whether a number is marked, `with` marks it
+module _ {S : Type 0} (has : S → ℕ → Bool) (with : S → ℕ → S) where
+  -- whether some number was marked already when it came; b: what was found before these
+  unfoldable pub again : List ℕ → S → Bool → Bool
+  again [] s b = b
+  again (x ∷ xs) s b = again xs (with s x) (b || has s x)
 
-none-marked : (n : ℕ) (xs : List ℕ) → All (λ x. x < n) xs → anyMarked xs (replicate n false) ≡ false
-none-marked n [] h = refl
-none-marked n (x ∷ xs) h = rw (getD-replicate n x false false (h .0)) (none-marked n xs (h .1))
+  -- some number is marked
+  abbrev anyMarked : List ℕ → S → Bool
+  anyMarked [] s = false
+  anyMarked (x ∷ xs) s = has s x || anyMarked xs s
 
-or-none : (b : Bool) → b || false ≡ b
-or-none true = refl
-or-none false = refl
+  -- marks that tell the numbers of some kind apart: a number is marked after x was, where it is x or was marked before
+  pub record Tells (Ok : S → Type 0) (Good : ℕ → Type 0) : Type 0 where
+    pub keeps : (s : S) (x : ℕ) → Ok s → Ok (with s x)
+    pub marks : (s : S) (x y : ℕ) → Ok s → Good x → Good y → has (with s x) y ≡ eqb x y || has s y
 
-pub again-repeats : (n : ℕ) (xs : List ℕ) → All (λ x. x < n) xs → again xs (replicate n false) false ≡ repeats xs
-again-repeats n xs h =
-    again-from n xs (replicate n false) false (length-replicate n false) h ∙ rw (none-marked n xs h) (or-none (repeats xs))
+  module _ {Ok : S → Type 0} {Good : ℕ → Type 0} (tells : Tells Ok Good) where
+    any-with : (xs : List ℕ) (s : S) (x : ℕ) → Ok s → Good x → All Good xs → anyMarked xs (with s x) ≡ anyMarked xs s || isIn x xs
+    unfolding isIn
+    any-with [] s x o g h = refl
+    any-with (y ∷ xs) s x o g h =
+        ap₂ _||_ (tells .marks s x y o g (h .0)) (any-with xs s x o g (h .1)) ∙ swap (eqb x y) (has s y) (isIn x xs) (anyMarked xs s)
+
+    again-from : (xs : List ℕ) (s : S) (b : Bool) → Ok s → All Good xs → again xs s b ≡ b || (repeats xs || anyMarked xs s)
+    unfolding again repeats
+    again-from [] s true o h = refl
+    again-from [] s false o h = refl
+    again-from (x ∷ xs) s b o h =
+        again-from xs (with s x) (b || has s x) (tells .keeps s x o) (h .1)
+        ∙ ap (λ (t : Bool). (b || has s x) || (repeats xs || t)) (any-with xs s x o (h .0) (h .1))
+        ∙ turn b (has s x) (repeats xs) (anyMarked xs s) (isIn x xs)
+
+    none-marked : (xs : List ℕ) (s : S) → ((x : ℕ) → Good x → has s x ≡ false) → All Good xs → anyMarked xs s ≡ false
+    none-marked [] s e h = refl
+    none-marked (x ∷ xs) s e h = rw (e x (h .0)) (none-marked xs s e (h .1))
+
+    -- from no marks, one is marked when it comes exactly where a number is there twice
+    pub again-repeats : (xs : List ℕ) (s : S) → Ok s → ((x : ℕ) → Good x → has s x ≡ false) → All Good xs → again xs s false ≡ repeats xs
+    again-repeats xs s o e h = again-from xs s false o h ∙ rw (none-marked xs s e h) (or-false (repeats xs))
+
+-- ---- a Bool for each number
+abbrev pub isMarked : List Bool → ℕ → Bool
+isMarked marks x = getD marks x false
+
+abbrev pub withMark : List Bool → ℕ → List Bool
+withMark marks x = set marks x true
+
+bools-tell : (n : ℕ) → Tells isMarked withMark (λ marks. length marks ≡ n) (λ x. x < n)
+bools-tell n =
+    record {
+      keeps = λ marks x e. length-set marks x true ∙ e;
+      marks = λ marks x y e l m. set-seen marks x y true false (λ q. rw e m) ∙ go (eqb x y) (getD marks y false);
+    }
+  where
+    go : (b m : Bool) → pick b true m ≡ b || m
+    go true m = refl
+    go false m = refl
+
+pub bools-repeat : (n : ℕ) (xs : List ℕ) → All (λ x. x < n) xs → again isMarked withMark xs (replicate n false) false ≡ repeats xs
+bools-repeat n xs h = again-repeats isMarked withMark (bools-tell n) xs (replicate n false) (length-replicate n false) (λ x l. getD-replicate n x false false l) h

@@ -8,6 +8,12 @@ use native.Mathlib.Omega.{arith}
 use borrow.Author.Tests.{leb-true, le-leb}
 use Rattle.laws.specs.Numbers.{within}
 
+pub and-comm : (a b : Bool) → a && b ≡ b && a
+and-comm true true = refl
+and-comm true false = refl
+and-comm false true = refl
+and-comm false false = refl
+
 pub or-true : (b : Bool) → b || true ≡ true
 or-true true = refl
 or-true false = refl
