@@ -55,16 +55,15 @@ module _ (n : ℕ) (s : List ℕ) (at : ℕ) (ends : placeOf (length s) (splitOf
         rw (p .rest, h) (ap (Filters operation) (split-count n s (p .raws) (drop at s) (p .rest)))
 
 -- ---- the list that a framed value has
-record FilterList (s : List ℕ) (rs : List Raw) : Type 0 where
-  some : 1 ≤ length s
-  rest : List ℕ
-  there : splitOf (length rs) (drop 1 s) ≡ split rs rest
+pub record FilterList (s : List ℕ) (rs : List Raw) : Type 0 where
+  pub rest : List ℕ
+  pub there : splitOf (length rs) (drop 1 s) ≡ split rs rest
 
-record IdentifierList (s xs : List ℕ) : Type 0 where
-  few : 1 + length xs ≤ length s
-  first : take (length xs) (drop 1 s) ≡ xs
+pub record IdentifierList (s xs : List ℕ) : Type 0 where
+  pub few : 1 + length xs ≤ length s
+  pub first : take (length xs) (drop 1 s) ≡ xs
 
-abbrev Listed : List ℕ → Framed → Type 0
+abbrev pub Listed : List ℕ → Framed → Type 0
 Listed s notFramed = Unit {0}
 Listed s (filters operation rs) = FilterList s rs
 Listed s (identifiers xs) = IdentifierList s xs
@@ -75,7 +74,7 @@ module _ (x : ℕ) (xs : List ℕ) where
   set-listed operation e n = go (eqb n 0) (splitOf n xs) refl
     where
       rest : (b : Bool) (rs : List Raw) (r : List ℕ) → splitOf n xs ≡ split rs r → Listed (x ∷ xs) (pick b (filters operation rs) notFramed)
-      rest true rs r h = record { some = omega arith; rest = r; there = rw (split-count n xs rs r h) h }
+      rest true rs r h = record { rest = r; there = rw (split-count n xs rs r h) h }
       rest false rs r h = tt
 
       go : (b : Bool) (q : Split) → splitOf n xs ≡ q → Listed (x ∷ xs) (pick b notFramed (framedSplit operation e q))
@@ -117,14 +116,13 @@ module _ (x : ℕ) (xs : List ℕ) where
       case : (k : ℕ) (F G : Framed) → Listed (x ∷ xs) F → Listed (x ∷ xs) G → Listed (x ∷ xs) (pick (eqb operation k) F G)
       case k = either (eqb operation k)
 
-listed : (s : List ℕ) → Listed s (framedOf s)
+pub listed : (s : List ℕ) → Listed s (framedOf s)
 unfolding framedOf
 listed [] = tt
 listed (x ∷ xs) = by-listed x xs (operationIn x) (extensionIn x) (countIn x)
 
 -- ---- and what its frame says of it
 pub record FiltersFramed (s : List ℕ) (operation : SetOperation) (n : ℕ) : Type 0 where
-  pub some : 1 ≤ length s
   pub raws : List Raw
   pub rest : List ℕ
   pub there : splitOf n (drop 1 s) ≡ split raws rest
@@ -155,7 +153,7 @@ module _ (s : List ℕ) where
       go (filters o rs) e l h =
           let k : length rs ≡ n = cc in
           let q : o ≡ operation = cc in
-          record { some = l .some; raws = rs; rest = l .rest; there = rw k at (l .there); framed = rw q at e }
+          record { raws = rs; rest = l .rest; there = rw k at (l .there); framed = rw q at e }
       go (identifiers xs) e l h = let z : _≡_ {A = ℕ} 0 1 = cc in absurd (omega arith)
       go (bare o) e l h = let z : _≡_ {A = ℕ} 0 1 = cc in absurd (omega arith)
 

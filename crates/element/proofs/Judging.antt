@@ -1,29 +1,36 @@
--- The filters judged one after the other, each decoded once, are judged as the reader's steps 7, 8 and 9 say, each over every filter.
+-- The filters judged one after the other, each decoded once, are judged as the reader's steps 7, 8 and 9 say, each over every filter; and the parts that
+-- are made of a value, by how it is framed, are those of the element that the reader gives.
 use mathlib.Core.Path.{_≡_, refl, sym, _∙_}
 use mathlib.Core.Bool.{Bool, true, false, not, _&&_, _||_, or-false}
 use mathlib.Core.List.{List, [], _∷_, map}
-use Prim.Native.Nat.{ℕ, zero, suc, _<_}
+use Prim.Native.Nat.{ℕ, zero, suc, _≤_, _<_}
 use native.Mathlib.Omega.{arith}
-use lib.ListN.{take, drop, getD}
+use lib.Dec.{leb}
+use lib.ListN.{length, take, drop, getD}
 use Rattle.laws.specs.Says.{pick}
 use Rattle.laws.specs.Lists.{All, every, fold}
 use Rattle.laws.proofs.Parts.{all-drop}
-use Rattle.laws.proofs.Marks.{again, again-repeats}
+use Rattle.laws.proofs.Marks.{again, isMarked, withMark, bools-repeat}
 use Rattle.filter.specs.declared.component.Filter.{Filter}
 use Rattle.filter.specs.Build.{excluded, added, bare}
 use Rattle.filter.specs.Sizes.{placeCount}
 use Rattle.filter.proofs.Adding.{SameStart, added-start}
 use Rattle.element.specs.declared.answer.SetOperation.{SetOperation}
+use Rattle.element.specs.declared.answer.Cause.the-variants.{Operation, Semantics, Coding}
+use Rattle.element.specs.declared.answer.Answer.the-variants.{Filters}
+use Rattle.element.specs.declared.answer.Element.{Element}
 use Rattle.element.specs.declared.contents.Coded.{Coded}
 use Rattle.element.specs.declared.contents.Coded.the-variants.{Badly, Well}
+use Rattle.element.specs.declared.framing.Frame.{Frame}
 use Rattle.element.specs.declared.judge.Judged.{Judged}
-use Rattle.element.specs.Read.{noFilters, noMarks, Entry, precedenceOf, entryFittable, codedOf, Entries, badly, coded, withEntry, entriesOf, twice, inPlaces, judgedEntries, judgedFrame}
+use Rattle.element.specs.Head.{longest}
+use Rattle.element.specs.Read.{noFilters, noMarks, refused, Entry, precedenceOf, entryFittable, codedOf, Entries, badly, coded, withEntry, entriesOf, twice, inPlaces, judgedEntries, judgedFrame, readValue, readElement}
 use Rattle.element.specs.Contents.{lengthOf, known, componentOf, contentsFrom, contentsOf}
-use Rattle.element.specs.Framing.{Raw, identifierOf, directionOf, splitOf, framedOf}
-use Rattle.element.specs.inner.Walk.{noPrecedences, judgeStart, judgedWith, judgedRaw, judgedSplit, concluded}
+use Rattle.element.specs.Framing.{Raw, identifierOf, directionOf, splitOf, Framed, notFramed, filters, identifiers, bare as bareFramed, framedOf}
+use Rattle.element.specs.inner.Walk.{frameOf, whole, noPrecedences, Found, foundStart, foundWith, foundRaw, foundSplit, verdictOf, judgedOf, framedWithin, filtersIn, setAnswer, answerOf, identifiersEnd, marksOf}
 use Rattle.element.specs.Meaning.{Octet}
 use Rattle.element.proofs.Splitting.{OctetPrecedence, narrow-precedences}
-use Rattle.element.proofs.Frames.{FiltersFramed}
+use Rattle.element.proofs.Frames.{Listed, listed}
 
 -- ---- decoding keeps the precedence and the direction of the filter that it starts from
 keeps-both : (f g h : Filter) → SameStart f g → SameStart g h → SameStart f h
@@ -62,8 +69,8 @@ pub coded-keeps : (f : Filter) (xs : List ℕ) (g : Filter) → contentsOf f xs 
 coded-keeps f xs g e = rw e at (keeps f xs)
 
 -- ---- the filters that are well coded, one after the other
-judgedEntry : Judged → Entry → Judged
-judgedEntry st e = judgedWith st (e .identifier) (Well (e .filter))
+foundEntry : Found → Entry → Found
+foundEntry st e = foundWith st (e .identifier) (Well (e .filter))
 
 -- an entry as octets give it
 record Small (e : Entry) : Type 0 where
@@ -71,58 +78,58 @@ record Small (e : Entry) : Type 0 where
   precedence : precedenceOf e < 256
 
 -- r is what the raw filters after st give, where their entries are these: badly, or each entry judged
-abbrev Follows : Judged → Judged → Entries → Type 0
+abbrev Follows : Found → Found → Entries → Type 0
 Follows st r badly = r .badly ≡ true
-Follows st r (coded es) = (r ≡ fold judgedEntry st es) × All Small es
+Follows st r (coded es) = (r ≡ fold foundEntry st es) × All Small es
 
-badly-still : (st : Judged) (i : ℕ) (x : Coded) → st .badly ≡ true → judgedWith st i x .badly ≡ true
+badly-still : (st : Found) (i : ℕ) (x : Coded) → st .badly ≡ true → foundWith st i x .badly ≡ true
 badly-still st i Badly h = refl
 badly-still st i (Well f) h = h
 
-badly-stays : (st : Judged) (rs : List Raw) → st .badly ≡ true → fold judgedRaw st rs .badly ≡ true
-unfolding fold judgedRaw
+badly-stays : (st : Found) (rs : List Raw) → st .badly ≡ true → fold foundRaw st rs .badly ≡ true
+unfolding fold foundRaw
 badly-stays st [] h = h
-badly-stays st (r ∷ rs) h = badly-stays (judgedRaw st r) rs (badly-still st (identifierOf r) (codedOf r) h)
+badly-stays st (r ∷ rs) h = badly-stays (foundRaw st r) rs (badly-still st (identifierOf r) (codedOf r) h)
 
-follows-entry : (st r : Judged) (e : Entry) (es : Entries) → Small e → Follows (judgedEntry st e) r es → Follows st r (withEntry (e .identifier) (Well (e .filter)) es)
+follows-entry : (st r : Found) (e : Entry) (es : Entries) → Small e → Follows (foundEntry st e) r es → Follows st r (withEntry (e .identifier) (Well (e .filter)) es)
 unfolding fold
 follows-entry st r e badly s h = h
 follows-entry st r e (coded es) s h = (h .0, (s, h .1))
 
-follows : (st : Judged) (rs : List Raw) → All OctetPrecedence rs → Follows st (fold judgedRaw st rs) (entriesOf rs)
-unfolding fold judgedRaw entriesOf judgedEntry codedOf
+follows : (st : Found) (rs : List Raw) → All OctetPrecedence rs → Follows st (fold foundRaw st rs) (entriesOf rs)
+unfolding fold foundRaw entriesOf foundEntry codedOf
 follows st [] h = (refl, tt)
-follows st (r ∷ rs) h = go (codedOf r) refl (λ (st′ : Judged). follows st′ rs (h .1))
+follows st (r ∷ rs) h = go (codedOf r) refl (λ (st′ : Found). follows st′ rs (h .1))
   where
-    go : (x : Coded) → codedOf r ≡ x → ((st′ : Judged) → Follows st′ (fold judgedRaw st′ rs) (entriesOf rs))
-        → Follows st (fold judgedRaw (judgedWith st (identifierOf r) x) rs) (withEntry (identifierOf r) x (entriesOf rs))
-    go Badly e rec = badly-stays (judgedWith st (identifierOf r) Badly) rs refl
+    go : (x : Coded) → codedOf r ≡ x → ((st′ : Found) → Follows st′ (fold foundRaw st′ rs) (entriesOf rs))
+        → Follows st (fold foundRaw (foundWith st (identifierOf r) x) rs) (withEntry (identifierOf r) x (entriesOf rs))
+    go Badly e rec = badly-stays (foundWith st (identifierOf r) Badly) rs refl
     go (Well f) e rec =
         let k = coded-keeps (bare (r .precedence) (directionOf r)) (r .contents) f e in
         follows-entry st _ (record { identifier = identifierOf r; filter = f }) (entriesOf rs)
         (record { identifier = omega arith; precedence = omega (arith, k .precedence, h .0) })
-        (rec (judgedWith st (identifierOf r) (Well f)))
+        (rec (foundWith st (identifierOf r) (Well f)))
 
 -- ---- what was found of them, from the state st
-judged-badly : (st : Judged) (es : List Entry) → fold judgedEntry st es .badly ≡ st .badly
-unfolding fold judgedEntry
-judged-badly st [] = refl
-judged-badly st (e ∷ es) = judged-badly (judgedEntry st e) es
+found-badly : (st : Found) (es : List Entry) → fold foundEntry st es .badly ≡ st .badly
+unfolding fold foundEntry
+found-badly st [] = refl
+found-badly st (e ∷ es) = found-badly (foundEntry st e) es
 
-judged-row : (st : Judged) (es : List Entry) → fold judgedEntry st es .row ≡ inPlaces es (st .row)
-unfolding fold judgedEntry inPlaces
-judged-row st [] = refl
-judged-row st (e ∷ es) = judged-row (judgedEntry st e) es
+found-row : (st : Found) (es : List Entry) → fold foundEntry st es .row ≡ inPlaces es (st .row)
+unfolding fold foundEntry inPlaces
+found-row st [] = refl
+found-row st (e ∷ es) = found-row (foundEntry st e) es
 
 or-not : (u a b : Bool) → (u || not a) || not b ≡ u || not (a && b)
 or-not true a b = refl
 or-not false true b = refl
 or-not false false b = refl
 
-judged-unfit : (st : Judged) (es : List Entry) → fold judgedEntry st es .unfit ≡ st .unfit || not (every entryFittable es)
-unfolding fold judgedEntry every
-judged-unfit st [] = sym (or-false (st .unfit))
-judged-unfit st (e ∷ es) = judged-unfit (judgedEntry st e) es ∙ or-not (st .unfit) (entryFittable e) (every entryFittable es)
+found-unfit : (st : Found) (es : List Entry) → fold foundEntry st es .unfit ≡ st .unfit || not (every entryFittable es)
+unfolding fold foundEntry every
+found-unfit st [] = sym (or-false (st .unfit))
+found-unfit st (e ∷ es) = found-unfit (foundEntry st e) es ∙ or-not (st .unfit) (entryFittable e) (every entryFittable es)
 
 regroup : (a b i p : Bool) → (a || b) || i || p ≡ (a || i) || (b || p)
 regroup true b i p = refl
@@ -130,12 +137,12 @@ regroup false true true p = refl
 regroup false true false p = refl
 regroup false false i p = refl
 
-judged-repeated : (st : Judged) (es : List Entry) (a b : Bool) → st .repeated ≡ a || b
-    → fold judgedEntry st es .repeated ≡ again (map (λ e. e .identifier) es) (st .identifiers) a || again (map precedenceOf es) (st .precedences) b
-unfolding fold judgedEntry again
-judged-repeated st [] a b h = h
-judged-repeated st (e ∷ es) a b h =
-    judged-repeated (judgedEntry st e) es (a || getD (st .identifiers) (e .identifier) false) (b || getD (st .precedences) (precedenceOf e) false)
+found-repeated : (st : Found) (es : List Entry) (a b : Bool) → st .repeated ≡ a || b
+    → fold foundEntry st es .repeated ≡ again isMarked withMark (map (λ e. e .identifier) es) (st .identifiers) a || again isMarked withMark (map precedenceOf es) (st .precedences) b
+unfolding fold foundEntry again
+found-repeated st [] a b h = h
+found-repeated st (e ∷ es) a b h =
+    found-repeated (foundEntry st e) es (a || getD (st .identifiers) (e .identifier) false) (b || getD (st .precedences) (precedenceOf e) false)
     (rw h (regroup a b (getD (st .identifiers) (e .identifier) false) (getD (st .precedences) (precedenceOf e) false)))
 
 -- ---- from the start
@@ -147,33 +154,83 @@ small-precedences : (es : List Entry) → All Small es → All (λ x. x < 256) (
 small-precedences [] h = tt
 small-precedences (e ∷ es) h = (h .0 .precedence, small-precedences es (h .1))
 
-start-repeated : (es : List Entry) → All Small es → fold judgedEntry judgeStart es .repeated ≡ twice es
+start-repeated : (es : List Entry) → All Small es → fold foundEntry foundStart es .repeated ≡ twice es
 unfolding noMarks noPrecedences twice
 start-repeated es h =
-    judged-repeated judgeStart es false false refl
-    ∙ rw (again-repeats 16 (map (λ e. e .identifier) es) (small-identifiers es h), again-repeats 256 (map precedenceOf es) (small-precedences es h))
+    found-repeated foundStart es false false refl
+    ∙ rw (bools-repeat 16 (map (λ e. e .identifier) es) (small-identifiers es h), bools-repeat 256 (map precedenceOf es) (small-precedences es h))
 
-pick-not : {A : Type 0} (b : Bool) (x y : A) → pick (not b) x y ≡ pick b y x
-pick-not true x y = refl
-pick-not false x y = refl
+-- ---- the element of a filter set, of what was found
+abbrev setElement : SetOperation → Judged → Element
+setElement operation judged = record { answer = setAnswer operation (judged .verdict); filters = judged .row; marks = noMarks }
 
-verdict-at : (operation : SetOperation) (r : Judged) (es : List Entry) → r .badly ≡ false → r .row ≡ inPlaces es noFilters → r .unfit ≡ not (every entryFittable es)
-    → r .repeated ≡ twice es → concluded operation r ≡ judgedEntries operation (coded es)
-verdict-at operation r es hb hr hu ht = rw (hb, hu, ht, hr) (pick-not (every entryFittable es) _ _)
+decided : (operation : SetOperation) (row : List Filter) (fit again : Bool)
+    → record { answer = setAnswer operation (verdictOf false (not fit) again); filters = pick (not fit || again) noFilters row; marks = noMarks }
+    ≡ pick fit (pick again (refused Coding) (record { answer = Filters operation; filters = row; marks = noMarks })) (refused Semantics)
+decided operation row true true = refl
+decided operation row true false = refl
+decided operation row false again = refl
 
-judged-verdict : (operation : SetOperation) (r : Judged) (es : Entries) → Follows judgeStart r es → concluded operation r ≡ judgedEntries operation es
+verdict-at : (operation : SetOperation) (r : Found) (es : List Entry) → r .badly ≡ false → r .row ≡ inPlaces es noFilters → r .unfit ≡ not (every entryFittable es)
+    → r .repeated ≡ twice es → setElement operation (judgedOf r) ≡ judgedEntries operation (coded es)
+verdict-at operation r es hb hr hu ht = rw (hb, hu, ht, hr) (decided operation (inPlaces es noFilters) (every entryFittable es) (twice es))
+
+judged-verdict : (operation : SetOperation) (r : Found) (es : Entries) → Follows foundStart r es → setElement operation (judgedOf r) ≡ judgedEntries operation es
 judged-verdict operation r badly h = rw h
 judged-verdict operation r (coded es) h =
     rw (h .0)
-    (verdict-at operation (fold judgedEntry judgeStart es) es
-    (judged-badly judgeStart es) (judged-row judgeStart es) (judged-unfit judgeStart es) (start-repeated es (h .1)))
+    (verdict-at operation (fold foundEntry foundStart es) es
+    (found-badly foundStart es) (found-row foundStart es) (found-unfit foundStart es) (start-repeated es (h .1)))
 
 verdict-entries : (operation : SetOperation) (rs : List Raw) → All OctetPrecedence rs
-    → concluded operation (fold judgedRaw judgeStart rs) ≡ judgedEntries operation (entriesOf rs)
-verdict-entries operation rs h = judged-verdict operation (fold judgedRaw judgeStart rs) (entriesOf rs) (follows judgeStart rs h)
+    → setElement operation (judgedOf (fold foundRaw foundStart rs)) ≡ judgedEntries operation (entriesOf rs)
+verdict-entries operation rs h = judged-verdict operation (fold foundRaw foundStart rs) (entriesOf rs) (follows foundStart rs h)
 
--- ---- the filters of a framed value
-module _ (s : List ℕ) (operation : SetOperation) (n : ℕ) (f : FiltersFramed s operation n) where
-  pub filters-judged : All Octet s → concluded operation (judgedSplit judgeStart (splitOf n (drop 1 s))) ≡ judgedFrame (framedOf s)
-  filters-judged h =
-      rw (f .there, f .framed) (verdict-entries operation (f .raws) (narrow-precedences n (drop 1 s) (f .raws) (f .rest) (all-drop Octet 1 s h) (f .there)))
+-- ---- the parts of a value's element, by how it is framed
+module _ (s : List ℕ) where
+  listed-within : Listed s (framedWithin s)
+  listed-within = go (leb (length s) longest)
+    where
+      go : (b : Bool) → Listed s (pick b (framedOf s) notFramed)
+      go true = listed s
+      go false = tt
+
+  pub filters-there : whole (splitOf (filtersIn (frameOf (framedWithin s))) (drop 1 s)) ≡ true
+  unfolding splitOf
+  filters-there = go (framedWithin s) listed-within
+    where
+      go : (F : Framed) → Listed s F → whole (splitOf (filtersIn (frameOf F)) (drop 1 s)) ≡ true
+      go notFramed l = refl
+      go (filters operation rs) l = rw (l .there)
+      go (identifiers xs) l = refl
+      go (bareFramed operation) l = refl
+
+  pub identifiers-there : identifiersEnd (frameOf (framedWithin s)) ≤ length s
+  identifiers-there = go (framedWithin s) listed-within
+    where
+      go : (F : Framed) → Listed s F → identifiersEnd (frameOf F) ≤ length s
+      go notFramed l = omega arith
+      go (filters operation rs) l = omega arith
+      go (identifiers xs) l = l .few
+      go (bareFramed operation) l = omega arith
+
+  abbrev parts : Frame → Element
+  parts frame =
+      let judged = judgedOf (foundSplit foundStart (splitOf (filtersIn frame) (drop 1 s))) in
+      record { answer = answerOf frame (judged .verdict); filters = judged .row; marks = marksOf frame s }
+
+  frame-parts : All Octet s → (F : Framed) → Listed s F → parts (frameOf F) ≡ judgedFrame F
+  unfolding splitOf fold
+  frame-parts octets notFramed l = refl
+  frame-parts octets (filters operation rs) l =
+      rw (l .there) (verdict-entries operation rs (narrow-precedences (length rs) (drop 1 s) rs (l .rest) (all-drop Octet 1 s octets) (l .there)))
+  frame-parts octets (identifiers xs) l = rw (l .first)
+  frame-parts octets (bareFramed operation) l = refl
+
+  pub parts-read : All Octet s → parts (frameOf (framedWithin s)) ≡ readElement s
+  unfolding readElement readValue
+  parts-read octets = go (leb (length s) longest)
+    where
+      go : (b : Bool) → parts (frameOf (pick b (framedOf s) notFramed)) ≡ pick b (judgedFrame (framedOf s)) (refused Operation)
+      go true = frame-parts octets (framedOf s) (listed s)
+      go false = frame-parts octets notFramed tt

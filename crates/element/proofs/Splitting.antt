@@ -1,20 +1,24 @@
--- Laws of `splitOf`: the filter at a place of the octets, what is left after the filters, and what octets give.
+-- Laws of `splitOf`: the filter at a place of the octets, a walk that judges the filters, what is left after them, and what octets give.
 use mathlib.Core.Path.{_≡_, refl, sym, ap, _∙_}
-use mathlib.Core.Bool.{Bool, true, false, false≢true}
+use mathlib.Core.Bool.{Bool, true, false, _||_, or-assoc, false≢true}
 use mathlib.Core.List.{List, [], _∷_}
 use Prim.Native.Nat.{ℕ, zero, suc, _+_, _-_, _≤_, _<_}
 use native.Mathlib.Omega.{arith}
 use lib.Dec.{leb}
-use lib.ListN.{length, take, drop, getD, length-drop}
+use lib.ListN.{length, take, drop, getD, length-drop, length-set}
 use lib.Seq.{drop-drop, getD-drop}
 use borrow.Author.Tests.{le-leb, leb-true}
 use Rattle.laws.specs.Says.{pick}
 use Rattle.laws.specs.Lists.{All, fold}
-use Rattle.laws.proofs.Parts.{drop-next}
-use Rattle.laws.proofs.Parts.{all-drop}
-use Rattle.element.specs.declared.judge.Judged.{Judged}
-use Rattle.element.specs.Framing.{Raw, Split, cut, split, withRaw, splitOf}
-use Rattle.element.specs.inner.Walk.{rawAt, whole, judgedRaw, judgedSplit}
+use Rattle.laws.proofs.Parts.{drop-next, all-drop}
+use Rattle.filter.specs.declared.component.Filter.{Filter}
+use Rattle.filter.specs.Sizes.{placeCount, precedenceCount}
+use Rattle.element.specs.declared.contents.Coded.{Coded}
+use Rattle.element.specs.declared.contents.Coded.the-variants.{Badly, Well}
+use Rattle.element.specs.declared.judge.Verdict.{Verdict}
+use Rattle.element.specs.Read.{noFilters, codedOf}
+use Rattle.element.specs.Framing.{Raw, identifierOf, Split, cut, split, withRaw, splitOf}
+use Rattle.element.specs.inner.Walk.{rawAt, whole, Found, foundStart, foundWith, foundRaw, foundSplit, verdictOf, judgedOf}
 use Rattle.element.specs.Meaning.{Octet}
 
 abbrev pub OctetPrecedence : Raw → Type 0
@@ -59,10 +63,10 @@ pub whole-after : (r : Raw) (q : Split) → whole (withRaw r q) ≡ whole q
 whole-after r cut = refl
 whole-after r (split rs rest) = refl
 
-judged-after : (st : Judged) (r : Raw) (q : Split) → whole q ≡ true → judgedSplit st (withRaw r q) ≡ judgedSplit (judgedRaw st r) q
+found-after : (st : Found) (r : Raw) (q : Split) → whole q ≡ true → foundSplit st (withRaw r q) ≡ foundSplit (foundRaw st r) q
 unfolding fold
-judged-after st r cut e = absurd (false≢true e)
-judged-after st r (split rs rest) e = refl
+found-after st r cut e = absurd (false≢true e)
+found-after st r (split rs rest) e = refl
 
 -- a turn of a walk over n filters, of which i are judged and the next is at `at`, with l octets of contents
 module _ (s : List ℕ) (n i at : ℕ) (more : i < n) (there : whole (splitOf (n - i) (drop at s)) ≡ true) where
@@ -79,8 +83,42 @@ module _ (s : List ℕ) (n i at : ℕ) (more : i < n) (there : whole (splitOf (n
     pub turn-whole : whole (splitOf (n - (i + 1)) (drop (at + 3 + l) s)) ≡ true
     turn-whole = sym (ap whole turn ∙ whole-after (rawAt s at) (splitOf (n - (i + 1)) (drop (at + 3 + l) s))) ∙ there
 
-    pub turn-judged : (st : Judged) → judgedSplit (judgedRaw st (rawAt s at)) (splitOf (n - (i + 1)) (drop (at + 3 + l) s)) ≡ judgedSplit st (splitOf (n - i) (drop at s))
-    turn-judged st = sym (ap (judgedSplit st) turn ∙ judged-after st (rawAt s at) (splitOf (n - (i + 1)) (drop (at + 3 + l) s)) turn-whole)
+    turn-found : (st : Found) → foundSplit (foundRaw st (rawAt s at)) (splitOf (n - (i + 1)) (drop (at + 3 + l) s)) ≡ foundSplit st (splitOf (n - i) (drop at s))
+    turn-found st = sym (ap (foundSplit st) turn ∙ found-after st (rawAt s at) (splitOf (n - (i + 1)) (drop (at + 3 + l) s)) turn-whole)
+
+-- a place for each identifier and for each precedence
+abbrev Long : Found → Type 0
+Long st = (length (st .row) ≡ placeCount) × (length (st .identifiers) ≡ placeCount) × (length (st .precedences) ≡ precedenceCount)
+
+long-raw : (st : Found) (r : Raw) → Long st → Long (foundRaw st r)
+unfolding foundRaw
+long-raw st r h = go (codedOf r)
+  where
+    go : (x : Coded) → Long (foundWith st (identifierOf r) x)
+    go Badly = h
+    go (Well f) = (simp length-set (h .0), simp length-set (h .1), simp length-set (h .2))
+
+-- i of the n filters after octet 1 gave st: those that are left, from `at` on, are all there, and judged after st give what all of them give
+abbrev pub Reached : List ℕ → ℕ → ℕ → ℕ → Found → Type 0
+Reached s n at i st =
+    (i ≤ n) × Long st × (whole (splitOf (n - i) (drop at s)) ≡ true) × (foundSplit st (splitOf (n - i) (drop at s)) ≡ foundSplit foundStart (splitOf n (drop 1 s)))
+
+module _ (s : List ℕ) (n at i : ℕ) (st : Found) where
+  pub reached-more : i < n → (l : ℕ) → l ≡ getD s (at + 2) 0 → (next : Found) → next ≡ foundRaw st (rawAt s at) → Reached s n at i st → Reached s n (at + 3 + l) (i + 1) next
+  reached-more more l long next e h =
+      rw e (omega arith, long-raw st (rawAt s at) (h .1), turn-whole s n i at more (h .2) l long, turn-found s n i at more (h .2) l long st ∙ h .3)
+
+  reached-done : n ≤ i → Reached s n at i st → foundSplit foundStart (splitOf n (drop 1 s)) ≡ st
+  unfolding splitOf fold
+  reached-done end h =
+      let e : n - i ≡ 0 = omega arith in
+      sym (rw e at (h .3))
+
+  pub reached-judged : n ≤ i → (verdict : Verdict) → verdict ≡ verdictOf (st .badly) (st .unfit) (st .repeated)
+      → (wrong : Bool) → (st .badly || st .unfit) || st .repeated ≡ wrong → (row : List Filter) → row ≡ pick wrong noFilters (st .row)
+      → Reached s n at i st → record { verdict = verdict; row = row } ≡ judgedOf (foundSplit foundStart (splitOf n (drop 1 s)))
+  reached-judged end verdict hv wrong hw row hr h =
+      rw (reached-done end h, hv, hr, ← hw, or-assoc)
 
 -- ---- what is left after the filters stands at the end of the octets
 abbrev Ends : List ℕ → Split → Type 0

@@ -9,7 +9,7 @@ use lib.Dec.{leb}
 use lib.ListN.{length}
 use Rattle.laws.specs.Says.{pick}
 use Rattle.laws.specs.Lists.{All, Each, every, fold, repeats}
-use Rattle.laws.proofs.Marks.{again, again-repeats}
+use Rattle.laws.proofs.Marks.{again, isMarked, withMark, bools-repeat}
 use Rattle.filter.specs.declared.component.Filter.{Filter}
 use Rattle.filter.specs.Coding.{held}
 use Rattle.filter.specs.Ranges.{FilterInRange}
@@ -52,14 +52,14 @@ survey-given (f ∷ fs) st =
     go false = refl
 
 survey-repeated : (row : List Filter) (i : ℕ) (st : Survey)
-    → fold surveyed st row .repeated ≡ again (map precedenceOf (entriesFrom i row)) (st .precedences) (st .repeated)
+    → fold surveyed st row .repeated ≡ again isMarked withMark (map precedenceOf (entriesFrom i row)) (st .precedences) (st .repeated)
 unfolding fold surveyed entriesFrom again
 survey-repeated [] i st = refl
 survey-repeated (f ∷ fs) i st = survey-repeated fs (suc i) (surveyed st f) ∙ go (held f) (entriesFrom (suc i) fs)
   where
     go : (b : Bool) (es : List Entry)
-        → again (map precedenceOf es) (surveyedBy b st f .precedences) (surveyedBy b st f .repeated)
-        ≡ again (map precedenceOf (pick b (record { identifier = i; filter = f } ∷ es) es)) (st .precedences) (st .repeated)
+        → again isMarked withMark (map precedenceOf es) (surveyedBy b st f .precedences) (surveyedBy b st f .repeated)
+        ≡ again isMarked withMark (map precedenceOf (pick b (record { identifier = i; filter = f } ∷ es) es)) (st .precedences) (st .repeated)
     go true es = refl
     go false es = refl
 
@@ -82,7 +82,7 @@ survey-row row ok st e =
     let given : st .given ≡ every placeFine row = ap (λ (s : Survey). s .given) e ∙ survey-given row surveyStart in
     let repeated : st .repeated ≡ repeats (map precedenceOf (entriesFrom 0 row)) =
     ap (λ (s : Survey). s .repeated) e ∙ survey-repeated row 0 surveyStart
-    ∙ again-repeats precedenceCount (map precedenceOf (entriesFrom 0 row)) (precedences-small row 0 (ok .all)) in
+    ∙ bools-repeat precedenceCount (map precedenceOf (entriesFrom 0 row)) (precedences-small row 0 (ok .all)) in
     rw (n, given, repeated)
     (ap (λ (b : Bool). b && not (repeats (map precedenceOf (entriesFrom 0 row))))
     (and-assoc (every placeFine row) (leb 1 (length (entriesFrom 0 row))) (leb (length (entriesFrom 0 row)) 15)))

@@ -15,9 +15,7 @@ use Rattle.filter.specs.Ranges.{FilterInRange}
 use Rattle.filter.proofs.Typed.{filter-in-range}
 use Rattle.filter.proofs.component.Filter as filter
 use Rattle.element.proofs.answer.Element as element
-use Rattle.element.proofs.judge.Judged as judged
 use Rattle.element.proofs.survey.Survey as survey
-use Rattle.element.specs.declared.judge.Judged.{Judged}
 use Rattle.filter.specs.Sizes.{placeCount, precedenceCount}
 use Rattle.element.specs.Meaning.{ElementInRange}
 
@@ -37,20 +35,6 @@ element-in-range e vs is =
     record {
       filters = array-tells filter.the-field FilterInRange filter-in-range 16 (e .filters) _ (h .1 .0);
       marks = array-tells bool-field (λ b. Unit {0}) (λ b vs is. tt) 16 (e .marks) _ (h .1 .1 .0) .count;
-    }
-
-pub record JudgedLong (st : Judged) : Type 0 where
-  pub row : Each FilterInRange placeCount (st .row)
-  pub identifiers : length (st .identifiers) ≡ placeCount
-  pub precedences : length (st .precedences) ≡ precedenceCount
-
-pub judged-long : Tells judged.the-field JudgedLong
-judged-long st vs is =
-    let h = is .1 .1 in
-    record {
-      row = array-tells filter.the-field FilterInRange filter-in-range 16 (st .row) _ (h .0);
-      identifiers = array-tells bool-field (λ b. Unit {0}) (λ b vs is. tt) 16 (st .identifiers) _ (h .1 .0) .count;
-      precedences = array-tells bool-field (λ b. Unit {0}) (λ b vs is. tt) 256 (st .precedences) _ (h .1 .1 .0) .count;
     }
 
 pub survey-long : Tells survey.the-field (λ st. length (st .precedences) ≡ precedenceCount)

@@ -1,7 +1,6 @@
 // What the reader gives and the writer takes.
 ghost use mathlib.Core.Path.{_≡_};
 ghost use Rattle.element.specs.Numbers.{numberOf};
-ghost use Rattle.element.specs.Read.{withoutSets, refused};
 use filter::Filter;
 use filter::component::PLACES;
 
@@ -58,20 +57,4 @@ pub fn number(answer: Answer) -> u8
             }
         }
     }
-}
-
-pub(crate) fn without_sets(answer: Answer) -> Element
-    ensures { λ r. ⌜ r ≡ withoutSets answer ⌝ }
-{
-    Element {
-        answer,
-        filters: [Filter::bare(0, 0); PLACES],
-        marks: [false; PLACES],
-    }
-}
-
-pub(crate) fn refuse(cause: Cause) -> Element
-    ensures { λ r. ⌜ r ≡ refused cause ⌝ }
-{
-    without_sets(Answer::Refused(Refusal { cause }))
 }

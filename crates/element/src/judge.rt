@@ -1,17 +1,11 @@
 // The coding, the fit and the repeats of a value's filters, each filter decoded once.
 ghost use mathlib.Core.Path.{_≡_};
-ghost use mathlib.Core.Bool.{true};
+ghost use mathlib.Core.Bool.{true, false};
 ghost use Prim.Native.Nat.{_+_, _≤_, _<_};
-ghost use lib.ListN.{length, getD};
+ghost use lib.ListN.{length, drop, getD, set};
 ghost use Rattle.element.specs.Framing.{splitOf};
 ghost use Rattle.element.specs.Read.{codedOf};
-ghost use Rattle.element.specs.inner.Walk.{rawAt, whole, judgeStart, judgedWith, judgedRaw, judgedSplit, concluded};
-ghost use Rattle.filter.specs.Sizes.{placeCount};
-use crate::answer::Answer;
-use crate::answer::Cause;
-use crate::answer::Element;
-use crate::answer::SetOperation;
-use crate::answer::refuse;
+ghost use Rattle.element.specs.inner.Walk.{rawAt, whole, foundStart, foundSplit, verdictOf, judgedOf};
 use crate::contents::Coded;
 use crate::contents::read_contents;
 use crate::framing::identifier_in;
@@ -21,52 +15,28 @@ use filter::component::PLACES;
 use filter::component::PRECEDENCES;
 use filter::sample::fittable;
 
-// The filters so far by identifier, the identifiers and precedences seen, and what was found wrong.
+// The first of the reader's steps that some filter fails: coding, fit, repeats.
+pub enum Verdict {
+    Badly,
+    Unfit,
+    Repeated,
+    Fine,
+}
+
+// The row has the filters by identifier, and is empty where anything was found wrong.
 pub struct Judged {
+    pub verdict: Verdict,
     pub row: [Filter; PLACES],
-    pub identifiers: [bool; PLACES],
-    pub precedences: [bool; PRECEDENCES],
-    pub badly: bool,
-    pub unfit: bool,
-    pub repeated: bool,
 }
 
-fn judge_start() -> Judged
-    ensures { λ r. ⌜ r ≡ judgeStart ⌝ }
+// Whether x is marked already; it is from now on.
+fn marked_before(marks: &mut [bool], x: usize) -> bool
+    requires { ⌜ x < length (now marks) ⌝ }
+    ensures { λ r. ⌜ (r ≡ getD (now (marks .entry)) x false) × (now (marks .exit) ≡ set (now (marks .entry)) x true) ⌝ }
 {
-    Judged {
-        row: [Filter::bare(0, 0); PLACES],
-        identifiers: [false; PLACES],
-        precedences: [false; PRECEDENCES],
-        badly: false,
-        unfit: false,
-        repeated: false,
-    }
-}
-
-fn judge_filter(st: Judged, identifier: usize, f: Filter) -> Judged
-    requires { ⌜ identifier < placeCount ⌝ }
-    ensures { λ r. ⌜ r ≡ judgedWith st identifier (Coded.Well f) ⌝ }
-{
-    let mut next = st;
-    let precedence = wide(f.precedence);
-    let again = st.identifiers[identifier] | st.precedences[precedence];
-    next.row[identifier] = f;
-    next.identifiers[identifier] = true;
-    next.precedences[precedence] = true;
-    next.unfit = st.unfit | !fittable(f);
-    next.repeated = st.repeated | again;
-    next
-}
-
-fn judge_coded(st: Judged, identifier: usize, coded: Coded) -> Judged
-    requires { ⌜ identifier < placeCount ⌝ }
-    ensures { λ r. ⌜ r ≡ judgedWith st identifier coded ⌝ }
-{
-    match coded {
-        Coded::Badly => Judged { badly: true, ..st },
-        Coded::Well(f) => judge_filter(st, identifier, f),
-    }
+    let before = marks[x];
+    marks[x] = true;
+    before
 }
 
 // The filter at `at`, which is all there.
@@ -80,45 +50,55 @@ pub(crate) fn coded_at(s: &[u8], at: usize) -> Coded
     read_contents(Filter::bare(s[at + 1], direction), &s[from..from + l])
 }
 
-fn judge_entry(st: Judged, s: &[u8], at: usize) -> Judged
-    requires { ⌜ (at + 3 ≤ length (now s)) × (at + 3 + getD (now s) (at + 2) 0 ≤ length (now s)) ⌝ }
-    ensures { λ r. ⌜ r ≡ judgedRaw st (rawAt (now (s .entry)) at) ⌝ }
+fn verdict_of(badly: bool, unfit: bool, repeated: bool) -> Verdict
+    ensures { λ r. ⌜ r ≡ verdictOf badly unfit repeated ⌝ }
 {
-    judge_coded(st, wide(identifier_in(s[at])), coded_at(s, at))
+    if badly {
+        return Verdict::Badly;
+    }
+    if unfit {
+        return Verdict::Unfit;
+    }
+    if repeated {
+        return Verdict::Repeated;
+    }
+    Verdict::Fine
 }
 
-// The n filters of s, which are all there.
+// The n filters of the value s, which are all there. What is found of them stays in locals: a state that is handed on with its row is copied each turn.
 pub(crate) fn judge_all(s: &[u8], n: u8) -> Judged
-    requires { ⌜ whole (splitOf n (now s)) ≡ true ⌝ }
-    ensures { λ r. ⌜ r ≡ judgedSplit judgeStart (splitOf n (now (s .entry))) ⌝ }
+    requires { ⌜ whole (splitOf n (drop 1 (now s))) ≡ true ⌝ }
+    ensures { λ r. ⌜ r ≡ judgedOf (foundSplit foundStart (splitOf n (drop 1 (now (s .entry))))) ⌝ }
 {
-    let mut st = judge_start();
-    let mut at = 0;
+    let mut row = [Filter::bare(0, 0); PLACES];
+    let mut identifiers = [false; PLACES];
+    let mut precedences = [false; PRECEDENCES];
+    let mut badly = false;
+    let mut unfit = false;
+    let mut repeated = false;
+    let mut at = 1;
     let mut i: u8 = 0;
     while i < n {
-        st = judge_entry(st, s, at);
+        let coded = coded_at(s, at);
+        match coded {
+            Coded::Badly => {
+                badly = true;
+            }
+            Coded::Well(f) => {
+                let identifier = wide(identifier_in(s[at]));
+                repeated = repeated
+                    | marked_before(&mut identifiers[..], identifier)
+                    | marked_before(&mut precedences[..], wide(f.precedence));
+                unfit = unfit | !fittable(f);
+                row[identifier] = f;
+            }
+        }
         at = at + 3 + wide(s[at + 2]);
         i += 1;
     }
-    st
-}
-
-pub(crate) fn conclude(operation: SetOperation, st: Judged) -> Element
-    ensures { λ r. ⌜ r ≡ concluded operation st ⌝ }
-{
-    if st.badly {
-        return refuse(Cause::Coding);
+    let verdict = verdict_of(badly, unfit, repeated);
+    if badly | unfit | repeated {
+        row = [Filter::bare(0, 0); PLACES];
     }
-    if st.unfit {
-        return refuse(Cause::Semantics);
-    }
-    if st.repeated {
-        return refuse(Cause::Coding);
-    }
-    let filters = st.row;
-    Element {
-        answer: Answer::Filters(operation),
-        filters,
-        marks: [false; PLACES],
-    }
+    Judged { verdict, row }
 }

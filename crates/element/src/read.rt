@@ -1,21 +1,23 @@
 // The reader.
 ghost use mathlib.Core.Path.{_≡_};
+ghost use Prim.Native.Nat.{_≤_};
+ghost use lib.ListN.{length};
 ghost use Rattle.element.specs.Numbers.{numberOf};
-ghost use Rattle.element.specs.Read.{noMarks, marked, identifierSet, readElement};
+ghost use Rattle.element.specs.Read.{noMarks, marked, readElement};
+ghost use Rattle.element.specs.inner.Walk.{frameOf, framedWithin, filtersIn, refusal, setAnswer, answerOf, identifiersEnd, marksOf};
 use crate::answer::Answer;
 use crate::answer::Cause;
 use crate::answer::Element;
+use crate::answer::Refusal;
+use crate::answer::SetOperation;
 use crate::answer::number;
-use crate::answer::refuse;
-use crate::answer::without_sets;
 use crate::framing::Frame;
 use crate::framing::frame_of;
 use crate::framing::identifier_in;
 use crate::head::LONGEST;
-use crate::judge::conclude;
+use crate::judge::Verdict;
 use crate::judge::judge_all;
 use crate::octets::wide;
-use filter::Filter;
 use filter::component::PLACES;
 
 // The identifiers of all the octets of s.
@@ -32,31 +34,78 @@ fn mark_all(s: &[u8]) -> [bool; PLACES]
     marks
 }
 
-fn identifier_set(s: &[u8]) -> Element
-    ensures { λ r. ⌜ r ≡ identifierSet (now (s .entry)) ⌝ }
+fn marks_of(frame: Frame, value: &[u8]) -> [bool; PLACES]
+    requires { ⌜ identifiersEnd frame ≤ length (now value) ⌝ }
+    ensures { λ r. ⌜ r ≡ marksOf frame (now (value .entry)) ⌝ }
 {
-    Element {
-        answer: Answer::Identifiers,
-        filters: [Filter::bare(0, 0); PLACES],
-        marks: mark_all(s),
+    match frame {
+        Frame::Identifiers(n) => {
+            let end = 1 + wide(n);
+            mark_all(&value[1..end])
+        }
+        _ => [false; PLACES],
     }
 }
 
+fn refuse(cause: Cause) -> Answer
+    ensures { λ r. ⌜ r ≡ refusal cause ⌝ }
+{
+    Answer::Refused(Refusal { cause })
+}
+
+fn set_answer(operation: SetOperation, verdict: Verdict) -> Answer
+    ensures { λ r. ⌜ r ≡ setAnswer operation verdict ⌝ }
+{
+    match verdict {
+        Verdict::Badly => refuse(Cause::Coding),
+        Verdict::Unfit => refuse(Cause::Semantics),
+        Verdict::Repeated => refuse(Cause::Coding),
+        Verdict::Fine => Answer::Filters(operation),
+    }
+}
+
+fn filters_in(frame: Frame) -> u8
+    ensures { λ r. ⌜ r ≡ filtersIn frame ⌝ }
+{
+    match frame {
+        Frame::Filters(_, n) => n,
+        _ => 0,
+    }
+}
+
+fn answer_of(frame: Frame, verdict: Verdict) -> Answer
+    ensures { λ r. ⌜ r ≡ answerOf frame verdict ⌝ }
+{
+    match frame {
+        Frame::NotFramed => refuse(Cause::Operation),
+        Frame::Filters(operation, _) => set_answer(operation, verdict),
+        Frame::Identifiers(_) => Answer::Identifiers,
+        Frame::Bare(operation) => Answer::Bare(operation),
+    }
+}
+
+// A value of more than 255 octets is not framed.
+fn frame_within(value: &[u8]) -> Frame
+    ensures { λ r. ⌜ r ≡ frameOf (framedWithin (now (value .entry))) ⌝ }
+{
+    if LONGEST < value.len() {
+        return Frame::NotFramed;
+    }
+    frame_of(value)
+}
+
+// The element is made in one place, of three parts: an element for each case would be copied to where they meet.
 pub fn read(value: &[u8]) -> Element
     ensures { λ r. ⌜ r ≡ readElement (now (value .entry)) ⌝ }
 {
-    if LONGEST < value.len() {
-        return refuse(Cause::Operation);
-    }
-    let frame = frame_of(value);
-    match frame {
-        Frame::NotFramed => refuse(Cause::Operation),
-        Frame::Filters(operation, n) => conclude(operation, judge_all(&value[1..], n)),
-        Frame::Identifiers(n) => {
-            let end = 1 + wide(n);
-            identifier_set(&value[1..end])
-        }
-        Frame::Bare(operation) => without_sets(Answer::Bare(operation)),
+    let frame = frame_within(value);
+    let judged = judge_all(value, filters_in(frame));
+    let verdict = judged.verdict;
+    let filters = judged.row;
+    Element {
+        answer: answer_of(frame, verdict),
+        filters,
+        marks: marks_of(frame, value),
     }
 }
 

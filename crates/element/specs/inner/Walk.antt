@@ -27,9 +27,10 @@ use Rattle.filter.specs.Build.{excluded, added}
 use Rattle.filter.specs.Coding.{held}
 use Rattle.filter.specs.Fittable.{fittable, placeFine}
 use Rattle.element.specs.declared.answer.SetOperation.{SetOperation}
-use Rattle.element.specs.declared.answer.Cause.the-variants.{Semantics, Coding}
-use Rattle.element.specs.declared.answer.Answer.the-variants.{Filters}
-use Rattle.element.specs.declared.answer.Element.{Element}
+use Rattle.element.specs.declared.answer.Cause.{Cause}
+use Rattle.element.specs.declared.answer.Cause.the-variants.{Operation, Semantics, Coding}
+use Rattle.element.specs.declared.answer.Answer.{Answer}
+use Rattle.element.specs.declared.answer.Answer.the-variants.{Filters, Identifiers, Bare, Refused}
 use Rattle.element.specs.declared.contents.Coded.{Coded}
 use Rattle.element.specs.declared.contents.Coded.the-variants.{Badly, Well}
 use Rattle.element.specs.declared.contents.Step.{Step}
@@ -38,13 +39,16 @@ use Rattle.element.specs.declared.framing.Place.{Place}
 use Rattle.element.specs.declared.framing.Place.the-variants.{Cut, At}
 use Rattle.element.specs.declared.framing.Frame.{Frame}
 use Rattle.element.specs.declared.framing.Frame.the-variants.{NotFramed, Filters as FiltersFrame, Identifiers as IdentifiersFrame, Bare as BareFrame}
+use Rattle.element.specs.declared.judge.Verdict.{Verdict}
+use Rattle.element.specs.declared.judge.Verdict.the-variants.{Badly as BadlyCoded, Unfit, Repeated, Fine}
 use Rattle.element.specs.declared.judge.Judged.{Judged}
 use Rattle.element.specs.declared.survey.Survey.{Survey}
 use Rattle.element.specs.declared.fields.Field.{Field}
 use Rattle.element.specs.declared.fields.Field.the-variants.{No, Narrow, Wide}
-use Rattle.element.specs.Read.{noFilters, noMarks, refused, codedOf}
+use Rattle.element.specs.Read.{noFilters, noMarks, codedOf, marked}
+use Rattle.element.specs.Head.{longest}
 use Rattle.element.specs.Contents.{lengthOf, known, componentOf}
-use Rattle.element.specs.Framing.{Raw, identifierOf, Split, cut, split, Framed, notFramed, filters, identifiers, bare}
+use Rattle.element.specs.Framing.{Raw, identifierOf, Split, cut, split, Framed, notFramed, filters, identifiers, bare, framedOf}
 use Rattle.element.specs.Entries.{Located, locatedFilters}
 use Rattle.element.specs.Write.{addressBytes, entryOctets}
 
@@ -96,11 +100,20 @@ rawAt s at = record { first = getD s at 0; precedence = getD s (at + 1) 0; conte
 unfoldable pub noPrecedences : List Bool
 noPrecedences = replicate precedenceCount false
 
-abbrev pub judgeStart : Judged
-judgeStart = record { row = noFilters; identifiers = noMarks; precedences = noPrecedences; badly = false; unfit = false; repeated = false }
+-- what was found of the filters so far: those by identifier, the identifiers and precedences seen, and what is wrong
+pub record Found : Type 0 where
+  pub row : List Filter
+  pub identifiers : List Bool
+  pub precedences : List Bool
+  pub badly : Bool
+  pub unfit : Bool
+  pub repeated : Bool
 
-abbrev pub judgedWith : Judged → ℕ → Coded → Judged
-judgedWith st identifier Badly =
+abbrev pub foundStart : Found
+foundStart = record { row = noFilters; identifiers = noMarks; precedences = noPrecedences; badly = false; unfit = false; repeated = false }
+
+abbrev pub foundWith : Found → ℕ → Coded → Found
+foundWith st identifier Badly =
     record {
       row = st .row;
       identifiers = st .identifiers;
@@ -109,7 +122,7 @@ judgedWith st identifier Badly =
       unfit = st .unfit;
       repeated = st .repeated;
     }
-judgedWith st identifier (Well f) =
+foundWith st identifier (Well f) =
     record {
       row = set (st .row) identifier f;
       identifiers = set (st .identifiers) identifier true;
@@ -119,18 +132,61 @@ judgedWith st identifier (Well f) =
       repeated = st .repeated || getD (st .identifiers) identifier false || getD (st .precedences) (f .precedence) false;
     }
 
-unfoldable pub judgedRaw : Judged → Raw → Judged
-judgedRaw st r = judgedWith st (identifierOf r) (codedOf r)
+unfoldable pub foundRaw : Found → Raw → Found
+foundRaw st r = foundWith st (identifierOf r) (codedOf r)
 
-abbrev pub judgedSplit : Judged → Split → Judged
-judgedSplit st cut = st
-judgedSplit st (split rs rest) = fold judgedRaw st rs
+abbrev pub foundSplit : Found → Split → Found
+foundSplit st cut = st
+foundSplit st (split rs rest) = fold foundRaw st rs
 
-abbrev pub concluded : SetOperation → Judged → Element
-concluded operation st =
-    pick (st .badly) (refused Coding)
-    (pick (st .unfit) (refused Semantics)
-    (pick (st .repeated) (refused Coding) (record { answer = Filters operation; filters = st .row; marks = noMarks })))
+-- the first thing that is wrong decides; the row is handed on where nothing is
+abbrev pub verdictOf : Bool → Bool → Bool → Verdict
+verdictOf badly unfit repeated = pick badly BadlyCoded (pick unfit Unfit (pick repeated Repeated Fine))
+
+abbrev pub judgedOf : Found → Judged
+judgedOf st =
+    record {
+      verdict = verdictOf (st .badly) (st .unfit) (st .repeated);
+      row = pick (st .badly || st .unfit || st .repeated) noFilters (st .row);
+    }
+
+-- ---- the parts of an element, by how its value is framed
+abbrev pub framedWithin : List ℕ → Framed
+framedWithin s = pick (leb (length s) longest) (framedOf s) notFramed
+
+abbrev pub filtersIn : Frame → ℕ
+filtersIn NotFramed = 0
+filtersIn (FiltersFrame operation n) = n
+filtersIn (IdentifiersFrame n) = 0
+filtersIn (BareFrame operation) = 0
+
+abbrev pub refusal : Cause → Answer
+refusal cause = Refused (record { cause = cause })
+
+abbrev pub setAnswer : SetOperation → Verdict → Answer
+setAnswer operation BadlyCoded = refusal Coding
+setAnswer operation Unfit = refusal Semantics
+setAnswer operation Repeated = refusal Coding
+setAnswer operation Fine = Filters operation
+
+abbrev pub answerOf : Frame → Verdict → Answer
+answerOf NotFramed verdict = refusal Operation
+answerOf (FiltersFrame operation n) verdict = setAnswer operation verdict
+answerOf (IdentifiersFrame n) verdict = Identifiers
+answerOf (BareFrame operation) verdict = Bare operation
+
+-- the end of the identifiers, which come after octet 1
+abbrev pub identifiersEnd : Frame → ℕ
+identifiersEnd NotFramed = 0
+identifiersEnd (FiltersFrame operation n) = 0
+identifiersEnd (IdentifiersFrame n) = 1 + n
+identifiersEnd (BareFrame operation) = 0
+
+abbrev pub marksOf : Frame → List ℕ → List Bool
+marksOf NotFramed s = noMarks
+marksOf (FiltersFrame operation n) s = noMarks
+marksOf (IdentifiersFrame n) s = marked (take n (drop 1 s)) noMarks
+marksOf (BareFrame operation) s = noMarks
 
 -- ---- what a row holds, place by place
 abbrev pub surveyStart : Survey
