@@ -5,10 +5,10 @@ use mathlib.Core.Logic.{_⊎_, inl, inr, ⊎-elim}
 use Prim.Native.Nat.{ℕ, _<_, _≤_}
 use native.Mathlib.Omega.{arith}
 use Rattle.laws.specs.Says.{pick, Says}
-use Rattle.laws.specs.Index.{SomeBelow}
+use Rattle.laws.specs.Index.{SomeBelow, allBelow}
 use Rattle.laws.proofs.Typed.{each-at}
 use Rattle.laws.proofs.Tests.{both, either, or-true}
-use Rattle.laws.proofs.Says.{says-true, says-eq, says-le, says-and, says-if, says-unless, says-all, says-so, which, never}
+use Rattle.laws.proofs.Says.{says-true, says-eq, says-le, says-and, says-if, says-unless, says-all, says-so, says-no, which, never}
 use Rattle.filter.specs.declared.component.Filter.{Filter}
 use Rattle.filter.specs.Ranges.{FilterInRange}
 use Rattle.filter.specs.Coding.{held, wellCoded, emptyPlace}
@@ -150,6 +150,39 @@ module _ (t : Table) (ok : TableInRange t) where
           let back : link ≡ identityOf (indexOf link) = omega arith in
           record { at = indexOf link; below = omega arith; holds = (k .2, ap (connectionOf i) e ∙ back) }
 
+  -- two filters of one connection with one precedence are the same
+  abbrev pub Distinct : Type 0
+  Distinct = (i k j l : ℕ) → i < bearerCount → k < bearerCount → j < placeCount → l < placeCount → connectionAt t i ≡ connectionAt t k
+      → Held (filterAt t i j) → Held (filterAt t k l) → filterAt t i j .precedence ≡ filterAt t k l .precedence → (i ≡ k) × (j ≡ l)
+
+  module _ (alone : (i : ℕ) → i < bearerCount → Alone i) where
+    apart-distinct : ((i : ℕ) → i < bearerCount → roleAt t i ≡ Default → Within t (identityOf i)) → Distinct
+    apart-distinct h i k j l a b c d e g =
+        let n = connected i j a c (alone i a) g in
+        h (n .at) (n .below) (n .holds .0) i k j l a b c d (n .holds .1) (sym e ∙ n .holds .1) g
+
+  distinct-apart : Distinct → (i : ℕ) → i < bearerCount → roleAt t i ≡ Default → Within t (identityOf i)
+  distinct-apart w n u r i k j l a b c d o p = w i k j l a b c d (o ∙ sym p)
+
+  -- where each bearer is fine by itself
+  module _ (fine : allBelow (bearerFine t) bearerCount ≡ true) where
+    all-alone : (i : ℕ) → i < bearerCount → Alone i
+    all-alone = says-all bearerCount alone-says .to fine
+
+    pub distinct-says : Says (distinctPrecedences t) Distinct
+    distinct-says = says-so apart-says (apart-distinct all-alone) distinct-apart
+
+    -- a filter is an active bearer's, and its connection has a default's identity
+    pub held-active : (i j : ℕ) → i < bearerCount → j < placeCount → Held (filterAt t i j) → isIdle (roleAt t i) ≡ false
+    held-active i j l m g = says-no (idle-says (roleAt t i)) (λ e. never g (ap held (all-alone i l .1 j m .0 e) ∙ unheld))
+
+    pub held-identity : (i j : ℕ) → i < bearerCount → j < placeCount → Held (filterAt t i j) → isIdentity (connectionAt t i) ≡ true
+    held-identity i j l m g =
+        let n = connected i j l m (all-alone i l) g in
+        let e = n .holds .1 in
+        let b = n .below in
+        range-says (connectionAt t i) .from (omega arith, omega arith)
+
   -- the test is true exactly for the well-formed tables of document 01
   pub well-says : Says (wellFormed t) (WellFormed t)
   unfolding wellFormed
@@ -165,14 +198,12 @@ module _ (t : Table) (ok : TableInRange t) where
         zeroed = λ i j l m. h .0 .0 i l .1 j m .1 .zeroed;
         coded = λ i j l m. h .0 .0 i l .1 j m .1 .coded;
         fitted = λ i j l m. h .0 .0 i l .1 j m .1 .fitted;
-        distinct = λ i k j l a b c d e g.
-            let n = connected i j a c (h .0 .0 i a) g in
-            h .1 (n .at) (n .below) (n .holds .0) i k j l a b c d (n .holds .1) (sym e ∙ n .holds .1) g;
+        distinct = apart-distinct (h .0 .0) (h .1);
       })
       (λ w. (
         (
           λ i l. (((w .silent i l, w .small i l), λ link. w .linked i link l), λ j m. (w .empty i j l m, record { zeroed = w .zeroed i j l m; coded = w .coded i j l m; fitted = w .fitted i j l m })),
           λ i l k m. w .single i k l m,
         ),
-        λ n u r i k j l a b c d o p. w .distinct i k j l a b c d (o ∙ sym p),
+        distinct-apart (w .distinct),
       ))

@@ -1,50 +1,63 @@
 -- What the inner functions give is what WellFormed says.
 use mathlib.Core.Path.{_≡_, refl, sym, _∙_, ap}
-use mathlib.Core.Bool.{Bool, true, false, not, _&&_, _||_, and-true}
-use mathlib.Core.List.{List, [], _∷_, _++_}
-use Prim.Native.Nat.{ℕ, _+_, _<_}
+use mathlib.Core.Bool.{Bool, true, false, not, _&&_, _||_, and-true, or-false, or-assoc}
+use mathlib.Core.List.{List, [], _∷_}
+use mathlib.Core.Logic.{_⊎_, inl, inr}
+use Prim.Native.Nat.{ℕ, zero, suc, _+_, _≤_, _<_}
+use native.Mathlib.Numerals.{add-one}
 use native.Mathlib.Omega.{arith}
-use lib.Dec.{eqb}
-use lib.ListN.{getD}
+use lib.ListN.{length, getD, length-set, replicate}
 use Rattle.laws.specs.Says.{pick}
-use Rattle.laws.specs.Index.{imp, allBelow, tab, joined}
-use Rattle.laws.specs.Lists.{All, fold, repeats}
-use Rattle.laws.proofs.Index.{next, all-same, tab-at}
-use Rattle.laws.proofs.Marks.{again, again-repeats}
-use Rattle.laws.proofs.Typed.{each-at}
+use Rattle.laws.specs.Index.{allBelow, walk, tab, joined}
+use Rattle.laws.specs.Lists.{fold}
+use Rattle.laws.proofs.Index.{all-same, tab-at}
 use Rattle.filter.specs.declared.component.Filter.{Filter}
-use Rattle.filter.specs.Ranges.{FilterInRange}
-use Rattle.filter.specs.Coding.{held, wellCoded, emptyPlace}
+use Rattle.filter.specs.Coding.{held, emptyPlace}
 use Rattle.filter.specs.Fittable.{placeFine}
 use Rattle.table.specs.declared.bearer.Role.{Role}
 use Rattle.table.specs.declared.bearer.Role.the-variants.{Idle, Default, Dedicated}
 use Rattle.table.specs.declared.bearer.Table.{Table}
-use Rattle.table.specs.declared.distinct.Marks.{Marks}
 use Rattle.filter.specs.Sizes.{placeCount, precedenceCount}
-use Rattle.filter.specs.Build.{emptyFilter}
-use Rattle.table.specs.Bearers.{bearerCount, isIdentity, indexOf, identityOf, noBearer, inRow, bearerAt, roleAt, transactionAt, isDefault, connectionAt}
-use Rattle.table.specs.Ranges.{TableInRange}
-use Rattle.table.specs.WellFormed.{linkFine, bearerFine, transactionsApart, transactionFrom, distinctTransactions, precedenceIn, rowPrecedences, precedencesOf, connectionPrecedences, distinctAt}
-use Rattle.table.specs.inner.Walk.{defaultAt, linkIn, bearerIn, fineAt, apartIn, apartFrom, noneMarked, marked}
-use Rattle.laws.proofs.Joined.{joined-all}
+use Rattle.table.specs.Bearers.{bearerCount, isIdentity, indexOf, inRow, bearerAt, roleAt, transactionAt, isIdle, isDefault, connectionAt}
+use Rattle.table.specs.WellFormed.{linkFine, transactionFine, filterFine, bearerFine, transactionsApart, transactionFrom, distinctTransactions, precedenceIn, rowPrecedences}
+use Rattle.table.specs.inner.Walk.{defaultAt, linkIn, bearerIn, fineAt, apartIn, apartFrom, bitOf, hasBit, withBit, Marks, noneMarked, marked, markedWith, precedenceOf, activePrecedences, bearerMarked, marksAt, Told}
+use Rattle.laws.proofs.Lists.{fold-append}
 use Rattle.table.proofs.Meaning.{range-says}
 
 -- ---- one bearer
--- a place that holds a filter is not empty; one that holds none is fine where it is empty
-pub fine-held : (idle : Bool) (f : Filter) → held f ≡ true → not idle && placeFine f ≡ imp idle (emptyPlace f) && placeFine f
-unfolding emptyPlace
-fine-held true f e = rw e
-fine-held false f e = refl
-
-pub fine-empty : (idle : Bool) (f : Filter) → held f ≡ false → emptyPlace f ≡ imp idle (emptyPlace f) && placeFine f
-unfolding wellCoded
-fine-empty idle f e = rw e (go idle (emptyPlace f))
+-- a place of an idle bearer is fine where it is empty
+pub fine-idle : (row : List Filter) (j : ℕ) (r : Bool) → r ≡ emptyPlace (inRow row j) → r ≡ filterFine true row j
+unfolding filterFine
+fine-idle row j r e = e ∙ go (emptyPlace (inRow row j)) _
   where
-    go : (idle b : Bool) → b ≡ imp idle b && (b || false)
-    go true true = refl
-    go true false = refl
-    go false true = refl
-    go false false = refl
+    go : (a b : Bool) → a ≡ a && (a || b)
+    go true b = refl
+    go false b = refl
+
+-- places by fours
+unfoldable pub four : (ℕ → Bool) → ℕ → Bool
+four p n = p n && p (1 + n) && p (2 + n) && p (3 + n)
+
+pub four-idle : (row : List Filter) (n : ℕ) (r : Bool)
+    → r ≡ emptyPlace (inRow row n) && emptyPlace (inRow row (1 + n)) && emptyPlace (inRow row (2 + n)) && emptyPlace (inRow row (3 + n)) → r ≡ four (filterFine true row) n
+unfolding four
+four-idle row n r e =
+    e ∙ rw (← fine-idle row n _ refl, ← fine-idle row (1 + n) _ refl, ← fine-idle row (2 + n) _ refl, ← fine-idle row (3 + n) _ refl)
+
+pub by-fours : (p : ℕ → Bool) → ((four p 0 && four p 4) && four p 8) && four p 12 ≡ allBelow p placeCount
+unfolding allBelow four
+by-fours p =
+    ap (λ (b : Bool). b && four p 12) (ap (λ (b : Bool). b && four p 8) (on (allBelow p 4) (p 4) (p 5) (p 6) (p 7)) ∙ on (allBelow p 8) (p 8) (p 9) (p 10) (p 11))
+    ∙ on (allBelow p 12) (p 12) (p 13) (p 14) (p 15)
+  where
+    on : (a b c d e : Bool) → a && (b && c && d && e) ≡ a && b && c && d && e
+    on true b c d e = refl
+    on false b c d e = refl
+
+-- what came of a test that is made only where the one before is true
+pub then-and : {a r x y : Bool} → a ≡ x → ((a ≡ true) × (r ≡ y)) ⊎ ((a ≡ false) × (r ≡ false)) → r ≡ x && y
+then-and e (inl h) = h .1 ∙ rw (sym e ∙ h .0)
+then-and e (inr h) = h .1 ∙ rw (sym e ∙ h .0)
 
 pub in-eleven : (identity : ℕ) → isIdentity identity ≡ true → indexOf identity < bearerCount
 in-eleven identity e =
@@ -80,74 +93,148 @@ module _ (t : Table) where
   unfolding distinctTransactions
   transactions-are = all-same _ _ bearerCount transaction-is
 
--- ---- precedences, marked as they come
-module _ (piece : ℕ → List ℕ) (marks : Marks) where
-  pub marked-start : marks ≡ fold marked marks (joined piece 0)
-  unfolding fold joined
-  marked-start = refl
-
-  append : (st : Marks) (xs ys : List ℕ) → fold marked st (xs ++ ys) ≡ fold marked (fold marked st xs) ys
-  unfolding fold
-  append st [] ys = refl
-  append st (x ∷ xs) ys = append (marked st x) xs ys
-
-  pub marked-more : (i : ℕ) (st next′ : Marks) → next′ ≡ fold marked st (piece i) → st ≡ fold marked marks (joined piece i) → next′ ≡ fold marked marks (joined piece (i + 1))
-  unfolding joined
-  marked-more i st r h e =
-      next (λ (n : ℕ). fold marked marks (joined piece n)) i r
-      (h ∙ ap (λ (s : Marks). fold marked s (piece i)) e ∙ sym (append marks (joined piece i) (piece i)))
-
-pub marked-one : (st : Marks) (row : List Filter) (j : ℕ) → held (inRow row j) ≡ true → marked st (inRow row j .precedence) ≡ fold marked st (precedenceIn row j)
-unfolding fold
-marked-one st row j e = rw e
-
-pub marked-row : (st : Marks) (xs : List ℕ) (b : Bool) → b ≡ true → fold marked st xs ≡ fold marked st (pick b xs [])
-marked-row st xs b e = rw e
-
-pub marked-none : (st : Marks) (xs : List ℕ) (b : Bool) → b ≡ false → st ≡ fold marked st (pick b xs [])
-unfolding fold
-marked-none st xs b e = rw e
-
-again-marked : (xs : List ℕ) (st : Marks) → fold marked st xs .again ≡ again xs (st .seen) (st .again)
-unfolding fold marked again
-again-marked [] st = refl
-again-marked (x ∷ xs) st = again-marked xs (marked st x)
-
-abbrev Small : List ℕ → Type 0
-Small xs = All (λ x. x < precedenceCount) xs
-
-row-small : (row : List Filter) → ((j : ℕ) → j < placeCount → FilterInRange (inRow row j)) → Small (rowPrecedences row)
-unfolding rowPrecedences
-row-small row ok = joined-all (precedenceIn row) (λ x. x < precedenceCount) placeCount (λ j l. go (held (inRow row j)) (inRow row j .precedence) (ok j l .precedence))
+-- a bearer without a transaction is apart from every other
+pub none-open : (xs : List ℕ) (i : ℕ) → getD xs i 0 ≡ 0 → true ≡ apartFrom xs i
+unfolding apartFrom apartIn allBelow
+none-open xs i e = sym (all-same (apartIn xs i) (λ k. true) bearerCount (λ k l. rw e) ∙ all-true bearerCount)
   where
-    go : (b : Bool) (x : ℕ) → x < precedenceCount → Small (pick b (x ∷ []) [])
-    go true x l = (l, tt)
-    go false x l = tt
+    all-true : (n : ℕ) → allBelow (λ k. true) n ≡ true
+    all-true zero = refl
+    all-true (suc n) = rw (all-true n)
 
-module _ (t : Table) (ok : TableInRange t) (connection : ℕ) where
-  connection-small : Small (connectionPrecedences t connection)
-  unfolding connectionPrecedences
-  connection-small =
-      joined-all (precedencesOf t connection) (λ x. x < precedenceCount) bearerCount
-      (λ k l. go (eqb (connectionAt t k) connection) (rowPrecedences (bearerAt t k .row)) (row-small (bearerAt t k .row) (λ j m. each-at (each-at (ok .bearers) noBearer k l .row) emptyFilter j m)))
+-- ---- precedences, marked as they come
+-- what was found before changes no mark, and is kept
+module _ (bit : ℕ) where
+  seen-alone : (xs seen : List ℕ) (a b : Bool) → fold (marked bit) (record { seen = seen; again = a }) xs .seen ≡ fold (marked bit) (record { seen = seen; again = b }) xs .seen
+  unfolding fold marked
+  seen-alone [] seen a b = refl
+  seen-alone (x ∷ xs) seen a b = seen-alone xs (withBit bit seen x) (a || hasBit bit seen x) (b || hasBit bit seen x)
+
+  again-kept : (xs seen : List ℕ) (a : Bool) → fold (marked bit) (record { seen = seen; again = a }) xs .again ≡ a || markedWith bit seen xs .again
+  unfolding fold marked
+  again-kept [] seen a = sym (or-false a)
+  again-kept (x ∷ xs) seen a =
+      again-kept xs (withBit bit seen x) (a || hasBit bit seen x)
+      ∙ or-assoc a (hasBit bit seen x) (markedWith bit (withBit bit seen x) xs .again)
+      ∙ ap (λ (b : Bool). a || b) (sym (again-kept xs (withBit bit seen x) (hasBit bit seen x)))
+
+  marked-length : (xs seen : List ℕ) (a : Bool) → length (fold (marked bit) (record { seen = seen; again = a }) xs .seen) ≡ length seen
+  unfolding fold marked withBit
+  marked-length [] seen a = refl
+  marked-length (x ∷ xs) seen a = marked-length xs (withBit bit seen x) (a || hasBit bit seen x) ∙ length-set seen x _
+
+-- ---- a test that marks as it goes
+both-told : (a m b g : Bool) → (a && not m) && (b && not g) ≡ (a && b) && not (m || g)
+both-told true true true g = refl
+both-told true true false g = refl
+both-told true false true g = refl
+both-told true false false g = refl
+both-told false m b g = refl
+
+module _ {fine : Bool} {marks : Marks} {all : Bool} {seen : List ℕ} (told : Told fine marks all seen) where
+  -- one test more
+  pub told-fine : (a : Bool) → Told (fine && a) marks (all && a) seen
+  told-fine a = record { tells = ap (λ (b : Bool). b && a) (told .tells) ∙ go fine (not (marks .again)) a; leaves = told .leaves }
     where
-      go : (b : Bool) (xs : List ℕ) → Small xs → Small (pick b xs [])
-      go true xs h = h
-      go false xs h = tt
+      go : (f n b : Bool) → (f && n) && b ≡ (f && b) && n
+      go true true true = refl
+      go true true false = refl
+      go true false true = refl
+      go true false false = refl
+      go false n b = refl
 
-  -- the marks find the repeats
-  pub marks-find : (st : Marks) → st ≡ fold marked noneMarked (connectionPrecedences t connection) → not (st .again) ≡ not (repeats (connectionPrecedences t connection))
-  unfolding noneMarked
-  marks-find st e =
-      ap (λ (s : Marks). not (s .again)) e
-      ∙ ap not (again-marked (connectionPrecedences t connection) noneMarked ∙ again-repeats precedenceCount (connectionPrecedences t connection) connection-small)
+  -- precedences marked after those so far
+  pub told-more : (bit : ℕ) (xs : List ℕ) {a r : Bool} {after : List ℕ} → Told a (markedWith bit seen xs) r after → Told (fine && a) (fold (marked bit) marks xs) (all && r) after
+  told-more bit xs {a} h =
+      record {
+        tells = rw (told .tells, h .tells, told .leaves, again-kept bit xs (marks .seen) (marks .again)) (both-told fine (marks .again) a (markedWith bit (marks .seen) xs .again));
+        leaves = h .leaves ∙ rw (told .leaves) (seen-alone bit xs (marks .seen) false (marks .again));
+      }
 
--- ---- one connection
-module _ (t : Table) (i : ℕ) (all : Bool) where
-  pub distinct-default : (r : Bool) → isDefault (roleAt t i) ≡ true → r ≡ not (repeats (connectionPrecedences t (identityOf i))) → all && r ≡ all && distinctAt t i
-  unfolding distinctAt
-  distinct-default r d e = rw (d, e)
+-- ---- one filter
+held-marks : (bit : ℕ) (seen : List ℕ) (f : Filter) → held f ≡ true
+    → markedWith bit seen (precedenceOf f) ≡ record { seen = withBit bit seen (f .precedence); again = hasBit bit seen (f .precedence) }
+unfolding fold marked
+held-marks bit seen f h = rw h
 
-  pub distinct-other : isDefault (roleAt t i) ≡ false → all ≡ all && distinctAt t i
-  unfolding distinctAt
-  distinct-other d = rw d (sym (and-true all))
+no-marks : (bit : ℕ) (seen : List ℕ) (f : Filter) → held f ≡ false → markedWith bit seen (precedenceOf f) ≡ record { seen = seen; again = false }
+unfolding fold
+no-marks bit seen f h = rw h
+
+module _ (bit : ℕ) (seen : List ℕ) (f : Filter) where
+  abbrev pub FilterTold : Bool → List ℕ → Type 0
+  FilterTold r after = Told (placeFine f) (markedWith bit seen (precedenceOf f)) r after
+
+  pub told-held : (fine before : Bool) (after : List ℕ) → held f ≡ true → fine ≡ placeFine f
+      → (before ≡ hasBit bit seen (f .precedence)) × (after ≡ withBit bit seen (f .precedence)) → FilterTold (fine && not before) after
+  told-held fine before after h e m = rw (held-marks bit seen f h, e, m .0, m .1) (record { tells = refl; leaves = refl })
+
+  pub told-unheld : (fine : Bool) → held f ≡ false → fine ≡ placeFine f → FilterTold fine seen
+  told-unheld fine h e = rw (no-marks bit seen f h, e) (record { tells = sym (and-true (placeFine f)); leaves = refl })
+
+-- ---- the filters of a row
+module _ (bit : ℕ) (row : List Filter) (before : List ℕ) where
+  -- the places below j are tested and marked
+  abbrev pub RowTold : ℕ → Bool → List ℕ → Type 0
+  RowTold j all seen = Told (allBelow (filterFine false row) j) (markedWith bit before (joined (precedenceIn row) j)) all seen
+
+  pub row-start : RowTold 0 true before
+  unfolding allBelow joined fold
+  row-start = record { tells = refl; leaves = refl }
+
+  pub row-more : (j : ℕ) {all r : Bool} {seen after : List ℕ} → RowTold j all seen → FilterTold bit seen (inRow row j) r after → RowTold (j + 1) (all && r) after
+  unfolding allBelow joined filterFine
+  row-more j told h =
+      rw (add-one j, fold-append (marked bit) (joined (precedenceIn row) j) (precedenceIn row j) (record { seen = before; again = false }))
+      (told-more told bit (precedenceIn row j) h)
+
+  pub row-long : (j : ℕ) {all : Bool} {seen : List ℕ} → RowTold j all seen → length seen ≡ length before
+  row-long j told = ap length (told .leaves) ∙ marked-length bit (joined (precedenceIn row) j) before false
+
+  pub row-done : (j : ℕ) {all : Bool} {seen : List ℕ} → placeCount ≤ j → j ≤ placeCount → RowTold j all seen
+      → Told (allBelow (filterFine false row) placeCount) (markedWith bit before (rowPrecedences row)) all seen
+  unfolding rowPrecedences
+  row-done j l m told = let e : j ≡ placeCount = omega arith in rw e at told
+
+-- ---- the bearers of a table
+abbrev pub TableTold : List Bool → Table → ℕ → Bool → List ℕ → Type 0
+TableTold links t i all seen = Told (allBelow (fineAt links t) i) (marksAt t i) all seen
+
+pub table-start : (links : List Bool) (t : Table) → TableTold links t 0 true (replicate precedenceCount 0)
+unfolding allBelow walk noneMarked
+table-start links t = record { tells = refl; leaves = refl }
+
+marks-long : (t : Table) (n : ℕ) → length (marksAt t n .seen) ≡ precedenceCount
+unfolding walk bearerMarked noneMarked
+marks-long t zero = refl
+marks-long t (suc n) =
+    marked-length (bitOf (connectionAt t n)) (activePrecedences t n) (marksAt t n .seen) (marksAt t n .again) ∙ marks-long t n
+
+pub table-long : (links : List Bool) (t : Table) (i : ℕ) {all : Bool} {seen : List ℕ} → TableTold links t i all seen → length seen ≡ precedenceCount
+table-long links t i told = ap length (told .leaves) ∙ marks-long t i
+
+pub table-done : (links : List Bool) (t : Table) (i : ℕ) {all : Bool} {seen : List ℕ} → bearerCount ≤ i → i ≤ bearerCount → TableTold links t i all seen
+    → all ≡ allBelow (fineAt links t) bearerCount && not (marksAt t bearerCount .again)
+table-done links t i l m told = let e : i ≡ bearerCount = omega arith in let h = rw e at told in h .tells
+
+module _ (links : List Bool) (t : Table) (i : ℕ) {all : Bool} {seen : List ℕ} (told : TableTold links t i all seen) (transaction link : Bool) where
+  abbrev HeadTold : Type 0
+  HeadTold = (transaction ≡ transactionFine (isIdle (roleAt t i)) (transactionAt t i)) × (link ≡ linkIn links (roleAt t i))
+
+  regrouped : (a x l r : Bool) → ((a && x) && l) && r ≡ a && ((x && l) && r)
+  regrouped true x l r = refl
+  regrouped false x l r = refl
+
+  pub idle-more : (r : Bool) → HeadTold → isIdle (roleAt t i) ≡ true → r ≡ allBelow (filterFine true (bearerAt t i .row)) placeCount
+      → TableTold links t (i + 1) (((all && transaction) && link) && r) seen
+  unfolding allBelow walk bearerMarked bearerIn fold
+  idle-more r h d e =
+      rw (add-one i, d, ← e, ← rw d at (h .0), ← h .1, ← regrouped (allBelow (fineAt links t) i) transaction link r) (told-fine (told-fine (told-fine told transaction) link) r)
+
+  pub active-more : {r : Bool} {after : List ℕ} → HeadTold → isIdle (roleAt t i) ≡ false
+      → Told (allBelow (filterFine false (bearerAt t i .row)) placeCount) (markedWith (bitOf (connectionAt t i)) seen (rowPrecedences (bearerAt t i .row))) r after
+      → TableTold links t (i + 1) (((all && transaction) && link) && r) after
+  unfolding allBelow walk bearerMarked bearerIn
+  active-more h d e =
+      rw (add-one i, d, ← rw d at (h .0), ← h .1, ← regrouped (allBelow (fineAt links t) i) transaction link (allBelow (filterFine false (bearerAt t i .row)) placeCount))
+      (told-more (told-fine (told-fine told transaction) link) (bitOf (connectionAt t i)) (rowPrecedences (bearerAt t i .row)) e)

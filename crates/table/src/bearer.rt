@@ -127,7 +127,7 @@ pub fn in_connection(i: usize, role: Role, connection: u8) -> bool
 }
 
 // The connection of a bearer: its default's identity, 0 of an idle one.
-fn connection_of(i: usize, role: Role) -> u8
+pub(crate) fn connection_of(i: usize, role: Role) -> u8
     requires { ⌜ i ≤ 250 ⌝ }
     ensures { λ r. ⌜ r ≡ connectionOf i role ⌝ }
 {

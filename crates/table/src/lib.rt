@@ -1,6 +1,7 @@
 // The bearers of a module, their connections and transactions, and whether a table of them is well formed.
 pub mod bearer;
-mod distinct;
+mod marks;
+mod walk;
 pub mod well_formed;
 
 pub use bearer::Bearer;

@@ -1,10 +1,10 @@
--- `table::well_formed::link_fine` meets its contract: by the role that was matched, and whether its link is in range.
+-- `table::walk::link_fine` meets its contract: by the role that was matched, and whether its link is in range.
 -- Assumes nothing.
 use mathlib.Core.Path.{sym, _∙_}
 use Rattle.table.proofs.Walks.{in-eleven}
 use borrow.Author.Needs.{needs}
-use Rattle.table.proofs.well_formed.link_fine.Statement.{statement}
-use Rattle.table.proofs.well_formed.link_fine.Tie as tie
+use Rattle.table.proofs.walk.link_fine.Statement.{statement}
+use Rattle.table.proofs.walk.link_fine.Tie as tie
 
 array-read-result : tie.Need-array-read-result
 array-read-result c =
