@@ -7,7 +7,7 @@ use Prim.Native.Nat.{ℕ, zero, suc, _+_, _<_, _≤_}
 use native.Mathlib.Nat.{not-suc-le-zero, le-of-suc-le-suc}
 use native.Mathlib.Numerals.{add-one}
 use native.Mathlib.Omega.{arith}
-use mathlib.Core.List.{List, [], _∷_, _++_, append-nil}
+use mathlib.Core.List.{List, [], _∷_, _++_, map, append-nil}
 use lib.Dec.{eqb}
 use lib.ListN.{length, getD, set, length-set, length-append, List·getD-append}
 use lib.Seq.{set-getD, getD-set-same, getD-set-other, ext-getD, getD-append-seam}
@@ -78,6 +78,16 @@ module _ {A : Type 0} (f : A → ℕ → A) (a : A) where
   walk-keeps P (suc n) h turn = turn n (walk f a n) (omega arith) (walk-keeps P n h (λ i s l. turn i s (omega arith)))
 
 -- ---- a list by index
+-- a walk whose turns keep the length
+pub walk-long : {A : Type 0} (f : List A → ℕ → List A) → ((s : List A) (i : ℕ) → length (f s i) ≡ length s) → (s : List A) (n : ℕ) → length (walk f s n) ≡ length s
+walk-long {A} f keeps s n = walk-keeps f s (λ (i : ℕ) (r : List A). length r ≡ length s) n refl (λ i r l e. keeps r i ∙ e)
+
+-- a store, seen through f
+pub map-set : {A B : Type 0} (f : A → B) (xs : List A) (i : ℕ) (a : A) → map f (set xs i a) ≡ set (map f xs) i (f a)
+map-set f [] i a = refl
+map-set f (x ∷ xs) zero a = refl
+map-set {A} {B} f (x ∷ xs) (suc i) a = ap (λ (ys : List B). f x ∷ ys) (map-set f xs i a)
+
 pub tab-length : {A : Type 0} (f : ℕ → A) (n : ℕ) → length (tab f n) ≡ n
 unfolding tab
 tab-length f zero = refl
@@ -95,6 +105,9 @@ tab-is d f xs n e h =
     ext-getD d xs (tab f n) (e ∙ sym (tab-length f n)) (λ i l. let m : i < n = omega arith in h i m ∙ sym (tab-at f n i d m))
 
 -- what stands at i after a store at k
+pub tab-same : {A : Type 0} (d : A) (f g : ℕ → A) (n : ℕ) → ((i : ℕ) → i < n → f i ≡ g i) → tab f n ≡ tab g n
+tab-same d f g n h = tab-is d g (tab f n) n (tab-length f n) (λ i l. tab-at f n i d l ∙ h i l)
+
 pub set-seen : {A : Type 0} (xs : List A) (k i : ℕ) (v d : A) → (k ≡ i → i < length xs) → getD (set xs k v) i d ≡ pick (eqb k i) v (getD xs i d)
 set-seen {A} xs k i v d l = go (eqb k i) refl
   where
@@ -133,9 +146,10 @@ module _ {A : Type 0} (f : ℕ → A) (xs : List A) where
   pub stored-done : (d : A) (i n : ℕ) (ys : List A) → length xs ≡ n → n ≤ i → i ≤ n → ys ≡ stored i → ys ≡ tab f n
   stored-done d i n ys h l m e = done (stored) i n ys l m e ∙ tab-is d f (stored n) n (stored-length n ∙ h) (λ k q. stored-at d n k (omega arith) q)
 
--- a store that is left out, because f tells what stands there
+-- stores that are yet to come, and one that is left out, because f tells what stands there
 module _ {A : Type 0} (f : ℕ → A) (xs : List A) (d : A) where
-  stored-rest : (n i : ℕ) → n ≤ i → getD (stored f xs n) i d ≡ getD xs i d
+  -- what stands past the places that are stored is what stood there
+  pub stored-rest : (n i : ℕ) → n ≤ i → getD (stored f xs n) i d ≡ getD xs i d
   unfolding stored
   stored-rest zero i l = refl
   stored-rest (suc n) i l =
@@ -240,6 +254,11 @@ picks-same p q g zero h = refl
 picks-same p q g (suc n) h = rw (picks-same p q g n (λ i l. h i (omega arith)), h n (omega arith))
 
 -- ---- a list in an array, zero beyond its end
+pub picks-none : (p : ℕ → Bool) (g : ℕ → ℕ) (n : ℕ) → ((i : ℕ) → i < n → p i ≡ false) → picks p g n ≡ []
+unfolding picks
+picks-none p g zero h = refl
+picks-none p g (suc n) h = rw (picks-none p g n (λ i l. h i (omega arith)), h n (omega arith))
+
 pub pad-push : (n : ℕ) (xs : List ℕ) (v : ℕ) → set (pad n xs) (length xs) v ≡ pad n (xs ++ v ∷ [])
 unfolding pad
 pad-push zero xs v = refl
