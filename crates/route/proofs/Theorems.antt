@@ -9,7 +9,7 @@ use native.Mathlib.Omega.{arith}
 use lib.ListN.{length, getD}
 use Rattle.laws.specs.Says.{pick, Says}
 use Rattle.laws.specs.Index.{SomeBelow}
-use Rattle.laws.proofs.Says.{which, never, picked, says-it, says-eq, says-no, says-ne, says-any, unless-here, unless-later, where-here}
+use Rattle.laws.proofs.Says.{which, never, picked, says-it, says-ne, says-any, unless-here, unless-later, where-here}
 use Rattle.filter.specs.declared.packet.Header.{Header}
 use Rattle.filter.specs.Fit.{fits, validHeader}
 use Rattle.table.specs.declared.bearer.Table.{Table}
@@ -23,10 +23,11 @@ use Rattle.route.specs.declared.answer.Route.the-variants.{Bearer, Disca
 use Rattle.route.specs.declared.answer.Refusal.the-variants.{NotWellFormed, NoDefault, InvalidHeader}
 use Rattle.route.specs.declared.answer.Answer.the-variants.{Routed, Refused}
 use Rattle.route.specs.declared.list.Entry.{Entry}
-use Rattle.route.specs.Lists.{isUplink, precedenceAt, entryOf, nothing, entriesOf, listOf}
+use Rattle.route.specs.Lists.{isUplink, precedenceAt, nothing, entriesOf, listOf}
 use Rattle.route.specs.Positions.{Stands}
-use Rattle.route.specs.Routes.{numberOf, filterOf, entryFits, firstFit, uplinkAt, hasUplink, otherwiseOf, routeOn, routeOf}
+use Rattle.route.specs.Routes.{numberOf, entryFits, firstFit, uplinkAt, hasUplink, otherwiseOf, routeOn, routeOf}
 use Rattle.route.specs.Rule.{Fitting, NoneFits, Right, byFilter, byDefault, discarded, RouteNumbered}
+use Rattle.route.proofs.Firsts.{entry-fits, nothing-fits}
 use Rattle.route.proofs.Listing.{entries-length, list-stands, same-place, position, list-at}
 
 -- ---- the first position that fits, over any list
@@ -58,18 +59,6 @@ module _ (t : Table) (h : Header) (otherwise : Route) where
       go (inr q) (inl f) =
           inl (record { at = suc (f .at); below = omega (arith, f .below); fit = f .fit; before = after (f .at) q (f .before); is = rw q (f .is) })
       go (inr q) (inr f) = inr (record { none = after (length es) q (f .none); is = rw q (f .is) })
-
--- ---- what an entry names
-module _ (t : Table) (h : Header) where
-  entry-fits : (i j : ℕ) → entryFits t h (entryOf (identityOf i) j) ≡ fits (filterAt t i j) h
-  unfolding entryFits filterOf
-  entry-fits i j =
-      let back : indexOf (identityOf i) ≡ i = omega arith in
-      rw (says-no (says-eq (identityOf i) 0) (λ e. omega arith), back)
-
-  nothing-fits : entryFits t h nothing ≡ false
-  unfolding entryFits
-  nothing-fits = refl
 
 -- ---- where none fits
 own-says : (t : Table) (default : ℕ) → Says (hasUplink (bearerAt t (indexOf default) .row)) (SomeBelow placeCount (λ j. isUplink (filterAt t (indexOf default) j) ≡ true))

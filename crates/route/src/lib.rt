@@ -2,6 +2,7 @@
 pub mod answer;
 pub mod choose;
 pub mod list;
+mod notes;
 
 pub use answer::Answer;
 pub use answer::Refusal;

@@ -1,10 +1,10 @@
 // The ordered list of a connection.
 ghost use mathlib.Core.Path.{_≡_};
 ghost use Prim.Native.Nat.{_<_};
-ghost use Rattle.filter.specs.Sizes.{placeCount};
-ghost use Rattle.table.specs.Bearers.{bearerCount};
-ghost use Rattle.route.specs.Lists.{isUplink, listOf};
-ghost use Rattle.route.specs.inner.Walk.{emptyList, putFilter, putRow, putBearer};
+ghost use lib.ListN.{length, set};
+ghost use Rattle.filter.specs.Sizes.{placeCount, precedenceCount};
+ghost use Rattle.route.specs.Lists.{isUplink, entryOf, listOf};
+ghost use Rattle.route.specs.inner.Walk.{decoded, entriesIn, putRow};
 use filter::Filter;
 use filter::coding::held;
 use filter::coding::uplink;
@@ -14,7 +14,7 @@ use table::Bearer;
 use table::Table;
 use table::bearer::BEARERS;
 use table::bearer::FIRST_IDENTITY;
-use table::bearer::connection_at;
+use table::bearer::in_connection;
 
 // The filter stands at `place` of the row of `bearer`. No bearer has identity 0: such an entry names nothing.
 pub struct Entry {
@@ -32,63 +32,62 @@ pub(crate) fn is_uplink(filter: Filter) -> bool
     held(filter) & uplink(filter)
 }
 
-fn put_filter(list: OrderedList, bearer: u8, row: [Filter; PLACES], j: usize) -> OrderedList
-    requires { ⌜ j < placeCount ⌝ }
-    ensures { λ r. ⌜ r .entries ≡ putFilter row bearer (list .entries) j ⌝ }
+// An entry while the list is made: a number, since a slice of numbers is lent without a copy.
+const PER_BEARER: u16 = 256;
+
+fn decoded(cell: u16) -> Entry
+    ensures { λ r. ⌜ r ≡ decoded cell ⌝ }
 {
-    let filter = row[j];
-    let mut s = list;
-    if is_uplink(filter) {
-        let p = filter.precedence as usize;
-        s.entries[p] = Entry {
-            bearer: bearer,
-            place: j as u8,
-        };
+    Entry {
+        bearer: (cell / PER_BEARER) as u8,
+        place: (cell % PER_BEARER) as u8,
     }
-    s
 }
 
-fn put_row(list: OrderedList, bearer: u8, row: [Filter; PLACES]) -> OrderedList
-    ensures { λ r. ⌜ r .entries ≡ putRow row bearer (list .entries) ⌝ }
+pub(crate) fn put(cells: &mut [u16], precedence: u8, bearer: u8, j: usize)
+    requires { ⌜ (length (now cells) ≡ precedenceCount) × (j < placeCount) ⌝ }
+    ensures { λ r. ⌜ entriesIn (now (cells .exit)) ≡ set (entriesIn (now (cells .entry))) precedence (entryOf bearer j) ⌝ }
 {
-    let mut s = list;
+    let p = precedence as usize;
+    cells[p] = bearer as u16 * PER_BEARER + j as u16;
+}
+
+fn put_row(cells: &mut [u16], bearer: u8, b: Bearer)
+    requires { ⌜ length (now cells) ≡ precedenceCount ⌝ }
+    ensures { λ r. ⌜ entriesIn (now (cells .exit)) ≡ putRow (b .row) bearer (entriesIn (now (cells .entry))) ⌝ }
+{
     for j in 0..PLACES {
-        s = put_filter(s, bearer, row, j);
+        let f = b.row[j];
+        if is_uplink(f) {
+            put(cells, f.precedence, bearer, j);
+        }
+    }
+}
+
+pub(crate) fn listed(cells: &[u16]) -> OrderedList
+    requires { ⌜ length (now cells) ≡ precedenceCount ⌝ }
+    ensures { λ r. ⌜ r .entries ≡ entriesIn (now (cells .entry)) ⌝ }
+{
+    let mut s = OrderedList {
+        entries: [decoded(0); PRECEDENCES],
+    };
+    for p in 0..PRECEDENCES {
+        s.entries[p] = decoded(cells[p]);
     }
     s
-}
-
-fn put_bearer(list: OrderedList, t: Table, default: u8, i: usize) -> OrderedList
-    requires { ⌜ i < bearerCount ⌝ }
-    ensures { λ r. ⌜ r .entries ≡ putBearer t default (list .entries) i ⌝ }
-{
-    if connection_at(t, i) == default {
-        let b = t.bearers[i];
-        let row = b.row;
-        put_row(list, i as u8 + FIRST_IDENTITY, row)
-    } else {
-        list
-    }
-}
-
-fn empty_list() -> OrderedList
-    ensures { λ r. ⌜ r .entries ≡ emptyList ⌝ }
-{
-    let nothing = Entry {
-        bearer: 0,
-        place: 0,
-    };
-    OrderedList {
-        entries: [nothing; PRECEDENCES],
-    }
 }
 
 pub fn ordered(t: Table, default: u8) -> OrderedList
     ensures { λ r. ⌜ r ≡ listOf t default ⌝ }
 {
-    let mut s = empty_list();
+    let mut cells = [0; PRECEDENCES];
     for i in 0..BEARERS {
-        s = put_bearer(s, t, default, i);
+        let b = t.bearers[i];
+        let role = b.role;
+        if in_connection(i, role, default) {
+            let c = t.bearers[i];
+            put_row(&mut cells[..], i as u8 + FIRST_IDENTITY, c);
+        }
     }
-    s
+    listed(&cells[..])
 }

@@ -1,7 +1,7 @@
 -- How the code makes the list: it walks over bearers and places, and stores each uplink filter's entry at its precedence. The list so walked is
 -- the one that is defined, on every table: `walked-list` in proofs/Listing.antt.
-use Prim.Native.Nat.{ℕ}
-use mathlib.Core.List.{List}
+use Prim.Native.Nat.{ℕ, _/_, _%_}
+use mathlib.Core.List.{List, map}
 use lib.Dec.{eqb}
 use lib.ListN.{set, replicate}
 use Rattle.laws.specs.Says.{pick}
@@ -29,3 +29,10 @@ putBearer t default es i = pick (eqb (connectionAt t i) default) (putRow (bearer
 
 unfoldable pub walked : Table → ℕ → List Entry
 walked t default = walk (putBearer t default) emptyList bearerCount
+
+-- while it is made, an entry is a number, and these are the entries of a list of numbers
+unfoldable pub decoded : ℕ → Entry
+decoded cell = entryOf (cell / 256) (cell % 256)
+
+unfoldable pub entriesIn : List ℕ → List Entry
+entriesIn cells = map decoded cells

@@ -1,39 +1,53 @@
 -- `route::list::put_row` meets its contract: the places so far are put.
 -- Assumes nothing.
-use mathlib.Core.Path.{_≡_}
-use Prim.Native.Nat.{_≤_, _-_}
+use mathlib.Core.Path.{sym, _∙_}
+use mathlib.Core.Logic.{⊎-elim}
+use Prim.Native.Nat.{_+_, _≤_, _-_}
 use native.Mathlib.Omega.{arith}
-use Rattle.laws.specs.Index.{walk}
-use Rattle.laws.proofs.Index.{walk-start, walk-more, done}
 use Rattle.filter.specs.Sizes.{placeCount}
-use Rattle.route.specs.inner.Walk.{putFilter, putRow}
+use Rattle.route.proofs.Cells.{RowPut, row-start, row-put, row-skip, row-long, row-done}
 use borrow.Author.Needs.{needs}
 use Rattle.route.proofs.list.put_row.Statement.{statement}
 use Rattle.route.proofs.list.put_row.Tie as tie
 
 abbrev Inv-loop : tie.InvT-loop
-Inv-loop bearer row s₀ j₀ s j = (j ≤ placeCount) × (s .entries ≡ walk (putFilter row bearer) (s₀ .entries) j)
+Inv-loop cells₀ bearer b j₀ cells j = (j ≤ placeCount) × RowPut (b .row) bearer cells₀ j cells
 
 abbrev μ-loop : tie.MeasureT-loop
-μ-loop bearer row s₀ j₀ s j = placeCount - j
+μ-loop cells₀ bearer b j₀ cells j = placeCount - j
 
-loop-holds : tie.Need-loop-holds Inv-loop μ-loop
-loop-holds c =
-    let a = c .args in
-    (omega arith, walk-start (putFilter (a .row) (a .bearer)) (a .list .entries))
+put-requires : tie.Need-put-requires Inv-loop μ-loop
+put-requires c κs =
+    let l = c .before .before .before .before .before .loop in
+    (row-long _ _ _ (l .j) (l .inv .1) ∙ c .before .before .before .before .before .before .before .pre, omega arith)
 
 loop-again : tie.Need-loop-again Inv-loop μ-loop
 loop-again c =
-    let a = c .before .before .before .args in
-    let l = c .before .before .loop in
-    (omega arith, walk-more (putFilter (a .row) (a .bearer)) (a .list .entries) (l .j) (l .s .entries) _ (cc) (l .inv .1))
+    let start = c .before .before .before .before .before .before .args in
+    let l = c .before .before .before .before .loop in
+    let up = c .before .is-uplink .ensures in (
+      omega arith,
+      ⊎-elim {C = RowPut (start .t3 .row) (start .bearer) (start .cells .now) (l .j + 1) (c .if1 .cells)}
+          (λ w. rw (w .5) (row-put _ _ _ (l .j) (l .inv .1) (sym up ∙ w .0 .taken) (w .2 .ensures)))
+          (λ w. rw (w .1) (row-skip _ _ _ (l .j) (l .inv .1) (sym up ∙ w .0 .left)))
+          (c .if1 .came),
+    )
+
+same-length : tie.Need-same-length Inv-loop μ-loop
+same-length c = let l = c .before .loop in row-long _ _ _ (l .j) (l .inv .1)
 
 returns : tie.Need-returns Inv-loop μ-loop
-unfolding putRow
-returns c =
-    let a = c .before .before .args in
-    let l = c .before .loop in
-    done (walk (putFilter (a .row) (a .bearer)) (a .list .entries)) (l .j) placeCount _ (omega arith) (omega arith) (l .inv .1)
+returns c = let l = c .before .loop in row-done _ _ _ (l .j) (l .inv .1) (omega arith) (omega arith)
 
 pub put-row-spec : {M : Type 1} → statement M
-put-row-spec = tie.close (tie.spec Inv-loop μ-loop loop-holds (λ c κs. search needs) (λ c. search needs) (λ c. search needs) loop-again returns)
+put-row-spec =
+    tie.close
+    (tie.spec
+    Inv-loop μ-loop
+    (λ c. (omega arith, row-start _ _ _))
+    (λ c. search needs) (λ c. search needs) (λ c κs. search needs)
+    put-requires
+    (λ c. search needs) (λ c. search needs)
+    loop-again
+    same-length
+    returns)
