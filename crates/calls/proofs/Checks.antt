@@ -240,7 +240,7 @@ module _ (t : Table) (ok : TableInRange t) (x : ℕ) where
   closes : (bearer : ℕ) → Identity bearer → Stays t (closed t x) x (indexOf bearer)
   closes bearer h = closed-same (indexOf bearer) (omega (arith, h .0, h .1))
 
-  role-closed : (bearer : ℕ) → roleOf (closed t x) bearer ≡ roleOf t bearer
+  pub role-closed : (bearer : ℕ) → roleOf (closed t x) bearer ≡ roleOf t bearer
   role-closed bearer = go (isIdentity bearer) refl
     where
       go : (b : Bool) → isIdentity bearer ≡ b → pick b (roleAt (closed t x) (indexOf bearer)) Idle ≡ pick b (roleAt t (indexOf bearer)) Idle

@@ -9,20 +9,18 @@ use lib.ListN.{length, getD, set, replicate, length-set, length-replicate, getD-
 use lib.Seq.{getD-set-same, getD-set-other}
 use mathlib.Core.Logic.{⊎-elim}
 use Rattle.laws.specs.Says.{pick}
-use Rattle.laws.specs.Index.{anyBelow, picks, tab}
-use Rattle.laws.proofs.Index.{next, tab-at, tab-length, tab-is, any-none, any-same, any-no, picks-same}
-use Rattle.laws.proofs.Says.{which, never, says-eq, says-ne}
+use Rattle.laws.specs.Index.{anyBelow, tab}
+use Rattle.laws.proofs.Index.{next, tab-at, tab-length, tab-is, any-none}
+use Rattle.laws.proofs.Says.{which, says-eq, says-ne}
 use Rattle.filter.specs.declared.component.Filter.{Filter}
 use Rattle.filter.specs.Coding.{held}
-use Rattle.table.specs.declared.bearer.Role.{Role}
-use Rattle.table.specs.declared.bearer.Role.the-variants.{Idle}
 use Rattle.table.specs.declared.bearer.Table.{Table}
 use Rattle.filter.specs.Sizes.{placeCount, precedenceCount}
 use Rattle.filter.specs.Build.{emptyFilter}
-use Rattle.table.specs.Bearers.{bearerCount, inRow, roleAt, bearerAt, identityOf, isDefault, isDedicated}
+use Rattle.table.specs.Bearers.{inRow, bearerAt}
 use Rattle.calls.specs.inner.Walk.{so}
 use Rattle.calls.specs.Steps.{ofConnection}
-use Rattle.calls.specs.Lay.{old, takenBy, takes, conflict, placed, conflictIn, loses, placedIn, losesAt, conflictOnDefault, follows, released, followers}
+use Rattle.calls.specs.Lay.{old, takenBy, takes, conflict, placed, conflictIn, loses, losesAt}
 
 -- ---- the precedences of the new filters
 abbrev pub takenBelow : List Filter → ℕ → ℕ → Bool
@@ -75,21 +73,7 @@ pub taken-done : (new : List Filter) → tab (takenBelow new placeCount) precede
 unfolding takes
 taken-done new = refl
 
--- what is read there
-pub took-is : (new : List Filter) (ms : List Bool) (p : ℕ) → p < precedenceCount → ms ≡ tab (takes new) precedenceCount → getD ms p false ≡ takes new p
-took-is new ms p l e = ap (λ (ms : List Bool). getD ms p false) e ∙ tab-at (takes new) precedenceCount p false l
-
 -- ---- one place
-pub conflict-yes : (connected h took : Bool) → connected && took ≡ true → h ≡ connected && h && took
-conflict-yes true true took e = sym e
-conflict-yes true false took e = refl
-conflict-yes false h took e = never e refl
-
-pub conflict-no : (connected h took : Bool) → connected && took ≡ false → false ≡ connected && h && took
-conflict-no true true took e = sym e
-conflict-no true false took e = refl
-conflict-no false h took e = refl
-
 module _ (new : List Filter) (create named connected : Bool) (n f : Filter) (took hit : Bool) (et : took ≡ takes new (f .precedence)) (eh : hit ≡ connected && held f && took) where
   hit-is : hit ≡ conflict new connected f
   unfolding conflict
@@ -124,24 +108,11 @@ module _ (new : List Filter) (create named connected : Bool) (n f : Filter) (too
       go true false true = same (conflict new connected emptyFilter)
       go true false false = refl
 
--- ---- the roles, read once
-pub role-at : (t : Table) (roles : List Role) → roles ≡ tab (roleAt t) bearerCount → (i : ℕ) → i < bearerCount → getD roles i Idle ≡ roleAt t i
-role-at t roles e i l = ap (λ (roles : List Role). getD roles i Idle) e ∙ tab-at (roleAt t) bearerCount i Idle l
-
 -- ---- one row
 module _ (new : List Filter) (create : Bool) where
   loses-none : (named : Bool) (row : List Filter) → loses new create (so named false) row ≡ false
   unfolding loses conflictIn conflict
   loses-none named row = any-none (conflictIn new create (so named false) row) placeCount (λ j. refl)
-
-  -- a row that is not the named bearer's and loses nothing stays
-  pub row-stands : (connected : Bool) (row : List Filter) → length row ≡ placeCount → loses new create (so false connected) row ≡ false
-      → row ≡ tab (placedIn new create (so false connected) row) placeCount
-  unfolding loses conflictIn placedIn placed old
-  row-stands connected row long e =
-      tab-is emptyFilter (placedIn new create (so false connected) row) row placeCount long
-      (λ j l. let no : conflict new connected (inRow row j) ≡ false = any-no (conflictIn new create (so false connected) row) placeCount j l e in
-      ap (λ (b : Bool). pick b emptyFilter (inRow row j)) (sym no))
 
   -- ---- the bearers
   module _ (t : Table) (k connection : ℕ) where
@@ -154,20 +125,3 @@ module _ (new : List Filter) (create : Bool) where
     unfolding losesAt
     other-loses i m =
         sym (loses-none (eqb i k) (bearerAt t i .row)) ∙ ap (λ (connected : Bool). loses new create (so (eqb i k) connected) (bearerAt t i .row)) (sym m)
-
-    module _ (lost : List Bool) (e : lost ≡ tab (losesAt new create t k connection) bearerCount) where
-      pub lost-at : (i : ℕ) → i < bearerCount → getD lost i false ≡ losesAt new create t k connection i
-      lost-at i l = ap (λ (lost : List Bool). getD lost i false) e ∙ tab-at (losesAt new create t k connection) bearerCount i false l
-
-      module _ (roles : List Role) (er : roles ≡ tab (roleAt t) bearerCount) where
-        pub released-by : anyBelow (λ i. isDefault (getD roles i Idle) && getD lost i false) bearerCount ≡ released new create t k connection
-        unfolding released conflictOnDefault
-        released-by =
-            any-same (λ i. isDefault (getD roles i Idle) && getD lost i false) (conflictOnDefault new create t k connection) bearerCount
-            (λ i l. rw (role-at t roles er i l, lost-at i l))
-
-        pub followers-by : picks (λ i. isDedicated (getD roles i Idle) && getD lost i false) identityOf bearerCount ≡ followers new create t k connection
-        unfolding followers follows
-        followers-by =
-            picks-same (λ i. isDedicated (getD roles i Idle) && getD lost i false) (follows new create t k connection) identityOf bearerCount
-            (λ i l. rw (role-at t roles er i l, lost-at i l))

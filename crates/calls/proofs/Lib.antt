@@ -11,7 +11,11 @@ pub mod Named
 pub mod Theorems
 pub mod Followers
 pub mod Conflicts
+pub mod Overlays
 pub mod Answers
 pub mod Checks
 pub mod Closing
 pub mod Thin
+pub mod Deciding
+pub mod Applying
+pub mod Opening

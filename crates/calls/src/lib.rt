@@ -1,10 +1,12 @@
 // The six calls on a table of bearers: default and dedicated activation, modify, deactivate, resource modification reject, start.
 pub mod activate;
 pub mod deactivate;
+mod decide;
 pub mod in_place;
-mod lay;
 pub mod modify;
+mod overlay;
 pub mod reply;
+mod seen;
 mod steps;
 pub mod transaction;
 

@@ -2,15 +2,11 @@
 ghost use mathlib.Core.Path.{_≡_};
 ghost use mathlib.Core.Bool.{true};
 ghost use Prim.Native.Nat.{_<_};
-ghost use Rattle.laws.specs.Says.{pick};
 ghost use Rattle.laws.specs.Index.{anyBelow, tab};
-ghost use Rattle.filter.specs.Build.{emptyFilter};
 ghost use Rattle.table.specs.Bearers.{build, bearerCount};
 ghost use Rattle.calls.specs.inner.Walk.{cutBearer};
-ghost use Rattle.calls.specs.Steps.{opensAt, isOpen, ownerOf, closed, startedView, openedView, cutView, ofConnection, isAt, dropped, deletedIn, deletedView, holdsIn, staysIn, empties};
-ghost use Rattle.filter.specs.Sizes.{placeCount};
+ghost use Rattle.calls.specs.Steps.{opensAt, isOpen, ownerOf, closed, startedView, openedView, cutView, ofConnection, isAt, dropped};
 use filter::Filter;
-use filter::coding::held;
 use filter::component::PLACES;
 use table::Bearer;
 use table::Role;
@@ -142,72 +138,5 @@ pub(crate) fn drop_bearer(t: Table, bearer: u8) -> Table
         Role::Idle => t,
         Role::Default => without_connection(t, bearer),
         Role::Dedicated(_) => without_bearer(t, index_of(bearer)),
-    }
-}
-
-fn kept_unless(gone: bool, f: Filter) -> Filter
-    ensures { λ r. ⌜ r ≡ pick gone emptyFilter f ⌝ }
-{
-    if gone { Filter::bare(0, 0) } else { f }
-}
-
-fn deleted_row(marks: [bool; PLACES], row: [Filter; PLACES]) -> [Filter; PLACES]
-    ensures { λ r. ⌜ r ≡ tab (deletedIn true marks row) placeCount ⌝ }
-{
-    let mut s = row;
-    for j in 0..PLACES {
-        let f = row[j];
-        s[j] = kept_unless(marks[j], f);
-    }
-    s
-}
-
-pub(crate) fn deleted_table(t: Table, k: usize, marks: [bool; PLACES]) -> Table
-    ensures { λ r. ⌜ r ≡ build (deletedView t k marks) ⌝ }
-{
-    let mut s = t;
-    if k < BEARERS {
-        let b = t.bearers[k];
-        let row = b.row;
-        s.bearers[k] = Bearer {
-            row: deleted_row(marks, row),
-            ..b
-        };
-    }
-    s
-}
-
-fn row_holds(row: [Filter; PLACES]) -> bool
-    ensures { λ r. ⌜ r ≡ anyBelow (holdsIn row) placeCount ⌝ }
-{
-    let mut any = false;
-    for j in 0..PLACES {
-        let f = row[j];
-        any = any | held(f);
-    }
-    any
-}
-
-fn row_stays(marks: [bool; PLACES], row: [Filter; PLACES]) -> bool
-    ensures { λ r. ⌜ r ≡ anyBelow (staysIn marks row) placeCount ⌝ }
-{
-    let mut any = false;
-    for j in 0..PLACES {
-        let f = row[j];
-        any = any | (held(f) & !marks[j]);
-    }
-    any
-}
-
-// Whether deleting the marked filters of the bearer at k empties a row that holds some; none past the end.
-pub(crate) fn empties_bearer(t: Table, k: usize, marks: [bool; PLACES]) -> bool
-    ensures { λ r. ⌜ r ≡ empties t k marks ⌝ }
-{
-    if k < BEARERS {
-        let b = t.bearers[k];
-        let row = b.row;
-        row_holds(row) & !row_stays(marks, row)
-    } else {
-        false
     }
 }

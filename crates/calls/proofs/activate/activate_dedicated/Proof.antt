@@ -1,28 +1,34 @@
--- `calls::activate::activate_dedicated` meets its contract: a malformed table is refused, then a transaction that is not open; else it is closed, and the named bearer decides.
+-- `calls::activate::activate_dedicated` meets its contract: the bearers are seen, what comes of the message is decided, and each bearer is stored as it becomes.
 -- Assumes nothing.
-use mathlib.Core.Path.{_≡_, sym, _∙_}
-use mathlib.Core.Bool.{true}
-use borrow.Author.Tests.{not-true, not-false}
-use Rattle.table.specs.WellFormed.{wellFormed}
+use Rattle.table.proofs.Typed.{table-in-range}
 use Rattle.calls.specs.Others.{activateDedicatedOf}
+use Rattle.calls.specs.inner.Decide.{decidedDedicated, openedFated}
+use Rattle.calls.proofs.Applying.{whole}
+use Rattle.calls.proofs.Opening.{opened-means}
 use borrow.Author.Needs.{needs}
 use Rattle.calls.proofs.activate.activate_dedicated.Statement.{statement}
 use Rattle.calls.proofs.activate.activate_dedicated.Tie as tie
 
-fine : (c : tie.Else1) → wellFormed (c .before .before .before .args .t) ≡ true
-fine c = sym (c .before .well-formed .ensures) ∙ not-false _ (c .if1 .left)
+returns : tie.Need-returns
+returns c =
+    let p = c .before .before .before .before .before in
+    let q = p .before .before .before in
+    let start = q .before .before .before .before .before .before .before in
+    let t = start .args .t in
+    let bearer = start .args .bearer in
+    let link = start .args .link in
+    let x = start .args .transaction in
+    let value = start .args .value .now in
+    let ok = table-in-range t _ (start .good .0) in
+    whole t bearer value (λ seen fine said. decidedDedicated seen fine said bearer link x value) (λ k seen d new taken gone. openedFated t k x seen d new taken gone link)
+    (activateDedicatedOf t bearer link x value) (opened-means t ok bearer link x value) _ _ _ _ _ _ _ _ _ (q .before .before .before .before .before .well-formed .ensures)
+    (q .before .before .before .before .index-of .ensures) (q .before .before .before .read .ensures) (q .before .taken-by .ensures) (q .gone-by .ensures) (p .seen-of .ensures)
+    (c .before .before .before .before .decide-dedicated .ensures) (c .before .opened-and-laid .ensures) (c .followers .ensures)
 
 pub activate-dedicated-spec : {M : Type 1} → statement M
-unfolding activateDedicatedOf
 activate-dedicated-spec =
     tie.close
     (tie.spec
-    (λ c κs. search needs)
-    (λ c κs. search needs)
-    (λ c. rw (sym (c .before .before .well-formed .ensures) ∙ not-true _ (c .before .if1 .taken)) (c .malformed-table .ensures))
-    (λ c κs. search needs)
-    (λ c κs. search needs)
-    (λ c. rw (fine (c .before .before .before), sym (c .before .before .mismatches .ensures) ∙ c .before .if2 .taken) (c .reject-with .ensures))
-    (λ c κs. search needs)
-    (λ c κs. search needs)
-    (λ c. rw (fine (c .before .before .before .before), sym (c .before .before .before .mismatches .ensures) ∙ c .before .before .if2 .left) (rw (c .before .close .ensures) at (c .activate-named .ensures))))
+    (λ c κs. search needs) (λ c κs. search needs) (λ c κs. search needs) (λ c κs. search needs) (λ c κs. search needs) (λ c. search needs) (λ c. search needs)
+    (λ c κs. search needs) (λ c κs. search needs) (λ c. search needs) (λ c. search needs) (λ c κs. search needs) (λ c κs. search needs)
+    returns)

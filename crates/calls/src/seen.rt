@@ -1,0 +1,98 @@
+// What one walk sees of each bearer of a table.
+ghost use mathlib.Core.Path.{_≡_};
+ghost use lib.ListN.{length};
+ghost use Rattle.laws.specs.Index.{tab};
+ghost use Rattle.filter.specs.Sizes.{placeCount, precedenceCount};
+ghost use Rattle.table.specs.Bearers.{bearerCount};
+ghost use Rattle.calls.specs.inner.Overlay.{seenRow, seenOf, seenAt};
+ghost use Rattle.calls.specs.inner.Decide.{unseen};
+use crate::overlay::held_where;
+use filter::component::PLACES;
+use table::Bearer;
+use table::Role;
+use table::Table;
+use table::bearer::BEARERS;
+use table::bearer::is_idle;
+
+// `loses`: a filter that remains has a new filter's precedence. `empties`: it is the named bearer and holds filters, of which none remains.
+pub(crate) struct Seen {
+    pub(crate) role: Role,
+    pub(crate) transaction: u8,
+    pub(crate) loses: bool,
+    pub(crate) empties: bool,
+}
+
+struct SeenRow {
+    loses: bool,
+    empties: bool,
+}
+
+pub(crate) fn nothing_seen() -> Seen
+    ensures { λ r. ⌜ r ≡ unseen ⌝ }
+{
+    Seen {
+        role: Role::Idle,
+        transaction: 0,
+        loses: false,
+        empties: false,
+    }
+}
+
+fn see_row(b: Bearer, named: bool, taken: &[bool], gone: &[bool]) -> SeenRow
+    requires { ⌜ (length (now taken) ≡ precedenceCount) × (length (now gone) ≡ placeCount) ⌝ }
+    ensures { λ r. ⌜ r ≡ seenRow (now (taken .entry)) (now (gone .entry)) named (b .row) ⌝ }
+{
+    let mut loses = false;
+    let mut holds = false;
+    let mut stays = false;
+    for j in 0..PLACES {
+        let f = b.row[j];
+        let p = f.precedence as usize;
+        let took = taken[p];
+        let holding = held_where(named | took, f);
+        let remains = holding & !(named & gone[j]);
+        loses = loses | (took & remains);
+        holds = holds | holding;
+        stays = stays | remains;
+    }
+    SeenRow {
+        loses,
+        empties: holds & !stays,
+    }
+}
+
+// The row of an idle bearer is not looked at.
+pub(crate) fn see(b: Bearer, named: bool, taken: &[bool], gone: &[bool]) -> Seen
+    requires { ⌜ (length (now taken) ≡ precedenceCount) × (length (now gone) ≡ placeCount) ⌝ }
+    ensures { λ r. ⌜ r ≡ seenOf (now (taken .entry)) (now (gone .entry)) named b ⌝ }
+{
+    let role = b.role;
+    let transaction = b.transaction;
+    if is_idle(role) {
+        return Seen {
+            role,
+            transaction,
+            loses: false,
+            empties: false,
+        };
+    }
+    let row = see_row(b, named, taken, gone);
+    Seen {
+        role,
+        transaction,
+        loses: row.loses,
+        empties: row.empties,
+    }
+}
+
+pub(crate) fn seen_of(t: Table, k: usize, taken: &[bool], gone: &[bool]) -> [Seen; BEARERS]
+    requires { ⌜ (length (now taken) ≡ precedenceCount) × (length (now gone) ≡ placeCount) ⌝ }
+    ensures { λ r. ⌜ r ≡ tab (seenAt (now (taken .entry)) (now (gone .entry)) t k) bearerCount ⌝ }
+{
+    let mut seen = [nothing_seen(); BEARERS];
+    for i in 0..BEARERS {
+        let b = t.bearers[i];
+        seen[i] = see(b, i == k, taken, gone);
+    }
+    seen
+}
