@@ -20,7 +20,9 @@ use crate::text::put_named;
 use crate::text::put_named_line;
 use crate::text::put_number;
 use crate::text::put_text;
+use calls::FollowUps;
 use calls::Outcome;
+use calls::Reply;
 use element::Element;
 use element::Written;
 use filter::Filter;
@@ -68,46 +70,134 @@ pub(crate) fn bad_line(s: Session, out: &mut [u8]) -> Session {
     next
 }
 
-fn call_once(t: Table, call: Call, octets: &[u8]) -> Outcome {
+// What stands before the first call; every line asks for one at least.
+fn no_reply() -> Reply {
+    Reply {
+        answer: calls::Answer::Reattach,
+        follow: FollowUps {
+            count: 0,
+            bearers: [0; BEARERS],
+        },
+    }
+}
+
+// A call as often as a line asks for it, each on the table that the one before left. Each has a loop of its own with one place that
+// calls, so that the compiler takes the call into the loop; the table and the reply are locals, so that an outcome is not copied whole.
+fn default_times(t: Table, bearer: u8, times: u64) -> Outcome {
+    let mut table = t;
+    let mut reply = no_reply();
+    let mut i = 0;
+    while i < times {
+        let outcome = calls::activate::activate_default(table, bearer);
+        let after = outcome.table;
+        table = after;
+        let said = outcome.reply;
+        reply = said;
+        i += 1;
+    }
+    Outcome { table, reply }
+}
+
+fn dedicated_times(
+    t: Table,
+    bearer: u8,
+    link: u8,
+    transaction: u8,
+    value: &[u8],
+    times: u64,
+) -> Outcome {
+    let mut table = t;
+    let mut reply = no_reply();
+    let mut i = 0;
+    while i < times {
+        let outcome = calls::activate::activate_dedicated(table, bearer, link, transaction, value);
+        let after = outcome.table;
+        table = after;
+        let said = outcome.reply;
+        reply = said;
+        i += 1;
+    }
+    Outcome { table, reply }
+}
+
+fn modify_times(t: Table, bearer: u8, transaction: u8, value: &[u8], times: u64) -> Outcome {
+    let mut table = t;
+    let mut reply = no_reply();
+    let mut i = 0;
+    while i < times {
+        let outcome = calls::modify::modify(table, bearer, transaction, value);
+        let after = outcome.table;
+        table = after;
+        let said = outcome.reply;
+        reply = said;
+        i += 1;
+    }
+    Outcome { table, reply }
+}
+
+fn deactivate_times(t: Table, bearer: u8, transaction: u8, times: u64) -> Outcome {
+    let mut table = t;
+    let mut reply = no_reply();
+    let mut i = 0;
+    while i < times {
+        let outcome = calls::deactivate::deactivate(table, bearer, transaction);
+        let after = outcome.table;
+        table = after;
+        let said = outcome.reply;
+        reply = said;
+        i += 1;
+    }
+    Outcome { table, reply }
+}
+
+fn start_times(t: Table, transaction: u8, bearer: u8, times: u64) -> Outcome {
+    let mut table = t;
+    let mut reply = no_reply();
+    let mut i = 0;
+    while i < times {
+        let outcome = calls::transaction::start(table, transaction, bearer);
+        let after = outcome.table;
+        table = after;
+        let said = outcome.reply;
+        reply = said;
+        i += 1;
+    }
+    Outcome { table, reply }
+}
+
+fn reject_times(t: Table, transaction: u8, cause: u8, times: u64) -> Outcome {
+    let mut table = t;
+    let mut reply = no_reply();
+    let mut i = 0;
+    while i < times {
+        let outcome = calls::deactivate::reject(table, transaction, cause);
+        let after = outcome.table;
+        table = after;
+        let said = outcome.reply;
+        reply = said;
+        i += 1;
+    }
+    Outcome { table, reply }
+}
+
+fn call_times(t: Table, call: Call, octets: &[u8], times: u64) -> Outcome {
     match call {
-        Call::Default(bearer) => calls::activate::activate_default(t, bearer),
+        Call::Default(bearer) => default_times(t, bearer, times),
         Call::Dedicated {
             bearer,
             link,
             transaction,
             count,
-        } => calls::activate::activate_dedicated(
-            t,
-            bearer,
-            link,
-            transaction,
-            part(octets, 0, count),
-        ),
+        } => dedicated_times(t, bearer, link, transaction, part(octets, 0, count), times),
         Call::Modify {
             bearer,
             transaction,
             count,
-        } => calls::modify::modify(t, bearer, transaction, part(octets, 0, count)),
-        Call::Deactivate(bearer, transaction) => calls::deactivate::deactivate(
-            t,
-            bearer,
-            transaction,
-        ),
-        Call::Start(transaction, bearer) => calls::transaction::start(t, transaction, bearer),
-        Call::Reject(transaction, cause) => calls::deactivate::reject(t, transaction, cause),
+        } => modify_times(t, bearer, transaction, part(octets, 0, count), times),
+        Call::Deactivate(bearer, transaction) => deactivate_times(t, bearer, transaction, times),
+        Call::Start(transaction, bearer) => start_times(t, transaction, bearer, times),
+        Call::Reject(transaction, cause) => reject_times(t, transaction, cause, times),
     }
-}
-
-// The first call, and then the rest on the table that the call before gave.
-fn call_times(t: Table, call: Call, octets: &[u8], times: u64) -> Outcome {
-    let mut outcome = call_once(t, call, octets);
-    let mut i = 1;
-    while i < times {
-        let after = outcome.table;
-        outcome = call_once(after, call, octets);
-        i += 1;
-    }
-    outcome
 }
 
 fn run_call(s: Session, call: Call, octets: &[u8], times: u64, out: &mut [u8]) -> Session {
@@ -121,6 +211,7 @@ fn run_call(s: Session, call: Call, octets: &[u8], times: u64, out: &mut [u8]) -
     next
 }
 
+// Called in two places, so that it stays a function of its own: taken into the loop, it is compiled with the table in pieces.
 fn route_times(t: Table, default: u8, header: Header, times: u64) -> route::Answer {
     let mut answer = route::choose::route(t, default, header);
     let mut i = 1;
