@@ -1,14 +1,12 @@
 // The bench language: lines in, one call a line on one table that starts empty, replies out.
-mod build;
-mod command;
-mod feed;
-mod lines;
-mod parse;
+mod ask;
+mod change;
+mod compose;
+mod replies;
 mod run;
-mod scan;
-mod tell;
-mod text;
+mod tables;
+mod times;
 
 fn main() {
-    feed::feed_all();
+    run::run_all();
 }

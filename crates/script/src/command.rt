@@ -1,0 +1,75 @@
+// What a line asks for, once all of it is judged.
+use crate::scan::Scan;
+use filter::Header;
+
+// `count` is how many octets of an element's value were read from the line.
+pub enum Call {
+    Default(u8),
+    Dedicated {
+        bearer: u8,
+        link: u8,
+        transaction: u8,
+        count: usize,
+    },
+    Modify {
+        bearer: u8,
+        transaction: u8,
+        count: usize,
+    },
+    Deactivate(u8, u8),
+    Start(u8, u8),
+    Reject(u8, u8),
+}
+
+// A filter of the line: its place, what it has before its components, and where these stand in the line.
+pub struct Plan {
+    pub place: usize,
+    pub(crate) precedence: u8,
+    pub(crate) direction: u8,
+    pub(crate) scan: Scan,
+}
+
+// The role that a bearer is to be given by hand.
+pub enum RoleWord {
+    Idle,
+    Default,
+    Dedicated(u8),
+}
+
+// What is done to a bearer by hand. Its identity is as the line has it, any octet.
+pub enum Hand {
+    Force(u8, RoleWord, u8),
+    Place(u8, Plan),
+}
+
+// What is done to the operation that is being composed. A kind is the place of its word.
+pub enum Part {
+    Kind(usize),
+    Filter(Plan),
+    Identifier(usize),
+}
+
+// What changes neither the table nor the operation. `Nothing` is an empty line or a comment, and `Bad` a line that is none of the language's.
+pub enum Question {
+    Nothing,
+    Bad,
+    Route(u8, Header),
+    Check,
+    Show,
+    Element(usize),
+    Rewrite(usize, usize),
+    Emit(usize),
+}
+
+pub enum Command {
+    Call(Call),
+    Hand(Hand),
+    Compose(Part),
+    Ask(Question),
+}
+
+// What a line asks for, and how often.
+pub struct Asked {
+    pub command: Command,
+    pub times: u64,
+}

@@ -1,0 +1,13 @@
+// Lines of the bench language taken apart, and its replies put into text; a table is not known here.
+// The functions have no contract: each is proved to end without a fault, and nothing else is claimed.
+mod build;
+pub mod command;
+pub mod elements;
+pub mod filters;
+mod input;
+pub mod kinds;
+mod parse;
+pub mod reader;
+pub mod scan;
+pub mod text;
+mod words;

@@ -1,0 +1,458 @@
+// From the words of a line to what it asks for.
+use crate::build::address_from;
+use crate::build::plan_fine;
+use crate::command::Asked;
+use crate::command::Call;
+use crate::command::Command;
+use crate::command::Hand;
+use crate::command::Part;
+use crate::command::Plan;
+use crate::command::Question;
+use crate::command::RoleWord;
+use crate::kinds::KINDS;
+use crate::kinds::is_kind;
+use crate::scan::MOST_OCTETS;
+use crate::scan::Scan;
+use crate::scan::bad_scan;
+use crate::scan::half;
+use crate::scan::hex;
+use crate::scan::number;
+use crate::scan::octet;
+use crate::scan::part;
+use crate::scan::same;
+use crate::scan::scan_from;
+use crate::scan::size;
+use crate::scan::skip_spaces;
+use crate::scan::skip_words;
+use crate::scan::whole;
+use crate::scan::word_end;
+use crate::scan::word_of;
+use crate::words::place_of;
+use filter::Address;
+use filter::Header;
+
+// The words that a line begins with, and their places.
+const WORDS: [u8; 255] = *b"\
+    default        dedicated      modify         deactivate     start          reject         \
+    route          check          show           element        rewrite        emit           \
+    force          place          compose        filter         identifier     ";
+
+const DEFAULT: usize = 0;
+
+const DEDICATED: usize = 1;
+
+const MODIFY: usize = 2;
+
+const DEACTIVATE: usize = 3;
+
+const START: usize = 4;
+
+const REJECT: usize = 5;
+
+const ROUTE: usize = 6;
+
+const CHECK: usize = 7;
+
+const SHOW: usize = 8;
+
+const ELEMENT: usize = 9;
+
+const REWRITE: usize = 10;
+
+const EMIT: usize = 11;
+
+const FORCE: usize = 12;
+
+const PLACE: usize = 13;
+
+const COMPOSE: usize = 14;
+
+const FILTER: usize = 15;
+
+const IDENTIFIER: usize = 16;
+
+// The words of a role, and their places.
+const ROLES: [u8; 45] = *b"idle           default        dedicated      ";
+
+const IDLE_ROLE: usize = 0;
+
+const DEFAULT_ROLE: usize = 1;
+
+const DEDICATED_ROLE: usize = 2;
+
+const OCTET: u64 = 255;
+
+const HALF: u64 = 65535;
+
+const WORD: u64 = 4294967295;
+
+const LAST_PLACE: u64 = 15;
+
+const LARGEST_ROOM: u64 = 512;
+
+const ADDRESS_OCTETS: u64 = 16;
+
+const LONGEST_LINE: usize = 2048;
+
+const MOST_TIMES: u64 = 1000000;
+
+struct Addressed {
+    scan: Scan,
+    address: Address,
+}
+
+struct Ends {
+    protocol: u8,
+    local: u16,
+    remote: u16,
+    scan: Scan,
+}
+
+fn bad() -> Command {
+    Command::Ask(Question::Bad)
+}
+
+// The last three octets that were read.
+struct Numbers {
+    first: u8,
+    second: u8,
+    third: u8,
+    scan: Scan,
+}
+
+fn next_number(line: &[u8], n: Numbers) -> Numbers {
+    let s = n.scan;
+    let scan = number(line, s, OCTET);
+    Numbers {
+        first: n.second,
+        second: n.third,
+        third: octet(scan.value),
+        scan,
+    }
+}
+
+fn read_numbers(line: &[u8], scan: Scan, count: usize) -> Numbers {
+    let mut n = Numbers {
+        first: 0,
+        second: 0,
+        third: 0,
+        scan,
+    };
+    for _ in 0..count {
+        n = next_number(line, n);
+    }
+    n
+}
+
+// How many numbers a call has; where it has an element's value too, this stands after them.
+fn numbers_of(word: usize) -> usize {
+    match word {
+        DEFAULT => 1,
+        DEDICATED => 3,
+        _ => 2,
+    }
+}
+
+fn call_of(word: usize, n: Numbers, count: usize) -> Call {
+    match word {
+        DEFAULT => Call::Default(n.third),
+        DEDICATED => Call::Dedicated {
+            bearer: n.first,
+            link: n.second,
+            transaction: n.third,
+            count,
+        },
+        MODIFY => Call::Modify {
+            bearer: n.second,
+            transaction: n.third,
+            count,
+        },
+        DEACTIVATE => Call::Deactivate(n.second, n.third),
+        START => Call::Start(n.second, n.third),
+        _ => Call::Reject(n.second, n.third),
+    }
+}
+
+fn parse_call(word: usize, line: &[u8], s: Scan) -> Command {
+    let n = read_numbers(line, s, numbers_of(word));
+    let end = n.scan;
+    if !whole(line, end) {
+        return bad();
+    }
+    Command::Call(call_of(word, n, 0))
+}
+
+// A call that has an element's value.
+fn parse_valued(word: usize, line: &[u8], s: Scan, value: Scan) -> Command {
+    let n = read_numbers(line, s, numbers_of(word));
+    let before = n.scan;
+    if !(before.ok & whole(line, value)) {
+        return bad();
+    }
+    Command::Call(call_of(word, n, size(value.value)))
+}
+
+// The next word as the sixteen octets of an address.
+fn parse_address(line: &[u8], s: Scan) -> Addressed {
+    let mut space = [0u8; MOST_OCTETS];
+    let octets: &mut [u8] = &mut space;
+    let word = hex(line, s, octets);
+    Addressed {
+        scan: Scan {
+            at: word.at,
+            ok: word.ok & (word.value == ADDRESS_OCTETS),
+            value: 0,
+        },
+        address: address_from(octets, 0),
+    }
+}
+
+// Protocol and ports.
+fn parse_ends(line: &[u8], s: Scan) -> Ends {
+    let protocol = number(line, s, OCTET);
+    let local = number(line, protocol, HALF);
+    let remote = number(line, local, HALF);
+    Ends {
+        protocol: octet(protocol.value),
+        local: half(local.value),
+        remote: half(remote.value),
+        scan: remote,
+    }
+}
+
+fn parse_route(line: &[u8], s: Scan) -> Command {
+    let default = number(line, s, OCTET);
+    let version = number(line, default, OCTET);
+    let addressed = parse_address(line, version);
+    let address = addressed.address;
+    let after = addressed.scan;
+    let ends = parse_ends(line, after);
+    let after = ends.scan;
+    let index = number(line, after, WORD);
+    let class = number(line, index, OCTET);
+    let label = number(line, class, WORD);
+    if !whole(line, label) {
+        return bad();
+    }
+    let header = Header {
+        version: octet(version.value),
+        address,
+        protocol: ends.protocol,
+        local: ends.local,
+        remote: ends.remote,
+        index: word_of(index.value),
+        class: octet(class.value),
+        label: word_of(label.value),
+    };
+    Command::Ask(Question::Route(octet(default.value), header))
+}
+
+fn parse_bare(line: &[u8], s: Scan, question: Question) -> Command {
+    if !whole(line, s) {
+        return bad();
+    }
+    Command::Ask(question)
+}
+
+fn parse_element(line: &[u8], value: Scan) -> Command {
+    parse_bare(line, value, Question::Element(size(value.value)))
+}
+
+fn parse_rewrite(line: &[u8], value: Scan) -> Command {
+    let room = number(line, value, LARGEST_ROOM);
+    parse_bare(
+        line,
+        room,
+        Question::Rewrite(size(value.value), size(room.value)),
+    )
+}
+
+fn parse_compose(line: &[u8], s: Scan) -> Command {
+    let from = skip_spaces(line, s.at);
+    let to = word_end(line, from);
+    let kind = place_of(&KINDS, part(line, from, to));
+    if !(whole(line, scan_from(to)) & is_kind(kind)) {
+        return bad();
+    }
+    Command::Compose(Part::Kind(kind))
+}
+
+// `filter` after its word, or `place` after its bearer.
+fn parse_plan(line: &[u8], s: Scan) -> Plan {
+    let place = number(line, s, LAST_PLACE);
+    let precedence = number(line, place, OCTET);
+    let direction = number(line, precedence, OCTET);
+    Plan {
+        place: size(place.value),
+        precedence: octet(precedence.value),
+        direction: octet(direction.value),
+        scan: direction,
+    }
+}
+
+fn parse_filter(line: &[u8], s: Scan) -> Command {
+    let plan = parse_plan(line, s);
+    if !plan_fine(line, plan) {
+        return bad();
+    }
+    Command::Compose(Part::Filter(plan))
+}
+
+fn parse_place(line: &[u8], s: Scan) -> Command {
+    let bearer = number(line, s, OCTET);
+    let plan = parse_plan(line, bearer);
+    if !plan_fine(line, plan) {
+        return bad();
+    }
+    Command::Hand(Hand::Place(octet(bearer.value), plan))
+}
+
+fn parse_identifier(line: &[u8], s: Scan) -> Command {
+    let identifier = number(line, s, LAST_PLACE);
+    if !whole(line, identifier) {
+        return bad();
+    }
+    Command::Compose(Part::Identifier(size(identifier.value)))
+}
+
+fn parse_emit(line: &[u8], s: Scan) -> Command {
+    let room = number(line, s, LARGEST_ROOM);
+    parse_bare(line, room, Question::Emit(size(room.value)))
+}
+
+fn forced(line: &[u8], identity: u8, role: RoleWord, s: Scan) -> Command {
+    let transaction = number(line, s, OCTET);
+    if !whole(line, transaction) {
+        return bad();
+    }
+    Command::Hand(Hand::Force(identity, role, octet(transaction.value)))
+}
+
+fn parse_force(line: &[u8], s: Scan) -> Command {
+    let bearer = number(line, s, OCTET);
+    let identity = octet(bearer.value);
+    let from = skip_spaces(line, bearer.at);
+    let to = word_end(line, from);
+    let role = place_of(&ROLES, part(line, from, to));
+    let after = Scan {
+        at: to,
+        ok: bearer.ok,
+        value: 0,
+    };
+    match role {
+        IDLE_ROLE => forced(line, identity, RoleWord::Idle, after),
+        DEFAULT_ROLE => forced(line, identity, RoleWord::Default, after),
+        DEDICATED_ROLE => {
+            let link = number(line, after, OCTET);
+            forced(line, identity, RoleWord::Dedicated(octet(link.value)), link)
+        }
+        _ => bad(),
+    }
+}
+
+// What the word asks for; `value` is what its HEX was read as, and says nothing where it has none.
+fn parse_word(word: usize, line: &[u8], s: Scan, value: Scan) -> Command {
+    match word {
+        DEFAULT | DEACTIVATE | START | REJECT => parse_call(word, line, s),
+        DEDICATED | MODIFY => parse_valued(word, line, s, value),
+        ROUTE => parse_route(line, s),
+        CHECK => parse_bare(line, s, Question::Check),
+        SHOW => parse_bare(line, s, Question::Show),
+        ELEMENT => parse_element(line, value),
+        REWRITE => parse_rewrite(line, value),
+        EMIT => parse_emit(line, s),
+        FORCE => parse_force(line, s),
+        PLACE => parse_place(line, s),
+        COMPOSE => parse_compose(line, s),
+        FILTER => parse_filter(line, s),
+        IDENTIFIER => parse_identifier(line, s),
+        _ => bad(),
+    }
+}
+
+// `filter`, `identifier` and `emit` want a `compose` before them.
+fn wants_compose(word: usize) -> bool {
+    (word == FILTER) | (word == IDENTIFIER) | (word == EMIT)
+}
+
+// How many words stand before the HEX.
+fn words_before(word: usize) -> usize {
+    if (word == DEDICATED) | (word == MODIFY) {
+        numbers_of(word)
+    } else {
+        0
+    }
+}
+
+// The line from `at` on. Its HEX is read first, into `octets`, so that nothing else is lent them.
+fn parse(line: &[u8], at: usize, composing: bool, octets: &mut [u8]) -> Command {
+    let from = skip_spaces(line, at);
+    let to = word_end(line, from);
+    let word = place_of(&WORDS, part(line, from, to));
+    let value = hex(
+        line,
+        scan_from(skip_words(line, to, words_before(word))),
+        octets,
+    );
+    if wants_compose(word) & !composing {
+        return bad();
+    }
+    parse_word(word, line, scan_from(to), value)
+}
+
+// Nothing but spaces, or a comment: spaces before its `#` are ignored as at any end of a line.
+fn is_passed_over(line: &[u8], from: usize) -> bool {
+    if line.len() <= from {
+        return true;
+    }
+    line[from] == b'#'
+}
+
+// Of a `repeat` N, and where what follows it begins; else once, and the whole line.
+fn repeated(line: &[u8], from: usize) -> Scan {
+    let to = word_end(line, from);
+    if !same(part(line, from, to), b"repeat") {
+        return Scan {
+            at: from,
+            ok: true,
+            value: 1,
+        };
+    }
+    let times = number(line, scan_from(to), MOST_TIMES);
+    Scan {
+        at: times.at,
+        ok: times.ok & (times.value != 0),
+        value: times.value,
+    }
+}
+
+// How often a line is to be done, and where what is done begins; not at all where it is passed over.
+fn times_of(line: &[u8]) -> Scan {
+    if LONGEST_LINE < line.len() {
+        return bad_scan();
+    }
+    let from = skip_spaces(line, 0);
+    if is_passed_over(line, from) {
+        return scan_from(from);
+    }
+    repeated(line, from)
+}
+
+fn once(command: Command) -> Asked {
+    Asked { command, times: 1 }
+}
+
+// A whole line. What a `repeat` has after N may be empty, a comment or a `repeat`: none of these is a command, so `parse` finds it bad.
+pub(crate) fn parse_line(line: &[u8], composing: bool, octets: &mut [u8]) -> Asked {
+    let times = times_of(line);
+    if !times.ok {
+        return once(bad());
+    }
+    if times.value == 0 {
+        return once(Command::Ask(Question::Nothing));
+    }
+    Asked {
+        command: parse(line, times.at, composing, octets),
+        times: times.value,
+    }
+}

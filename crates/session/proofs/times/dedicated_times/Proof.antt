@@ -1,0 +1,15 @@
+-- `session::times::dedicated_times` is safe and ends. Nothing has to hold from turn to turn.
+-- Assumes nothing.
+use Prim.Native.Nat.{_-_}
+use borrow.Author.Needs.{needs}
+use Rattle.session.proofs.times.dedicated_times.Statement.{statement}
+use Rattle.session.proofs.times.dedicated_times.Tie as tie
+
+abbrev Inv-loop : tie.InvT-loop
+Inv-loop bearer link transaction value times table₀ reply₀ i₀ table reply i = Unit {0}
+
+abbrev μ-loop : tie.MeasureT-loop
+μ-loop bearer link transaction value times table₀ reply₀ i₀ table reply i = times - i
+
+pub dedicated-times-spec : {M : Type 1} → statement M
+dedicated-times-spec = tie.close (tie.spec Inv-loop μ-loop (λ c κs. search needs) (λ c. search needs) (λ c κs. search needs) (λ c. search needs) (λ c. search needs) (λ c. search needs) (λ c. search needs))

@@ -1,0 +1,80 @@
+// The replies of calls and routes, and of the test of a table.
+use calls::FollowUps;
+use calls::Reply;
+use route::Route;
+use script::elements::put_refused;
+use script::text::put;
+use script::text::put_end;
+use script::text::put_line;
+use script::text::put_named;
+use script::text::put_named_line;
+use script::text::put_number;
+use script::text::put_text;
+use script::text::wide;
+use table::bearer::BEARERS;
+
+fn put_next_follow(out: &mut [u8], at: usize, wanted: bool, bearer: u8) -> usize {
+    if !wanted {
+        return at;
+    }
+    let o = put(out, at, b' ');
+    put_number(out, o, wide(bearer))
+}
+
+fn put_follow(out: &mut [u8], at: usize, follow: FollowUps) -> usize {
+    let mut o = at;
+    for i in 0..BEARERS {
+        o = put_next_follow(out, o, (i as u64) < wide(follow.count), follow.bearers[i]);
+    }
+    o
+}
+
+fn put_accept(out: &mut [u8], at: usize, bearer: u8, follow: FollowUps) -> usize {
+    let o = put_named(out, at, b"accept", wide(bearer));
+    if follow.count == 0 {
+        return put_end(out, o);
+    }
+    let o = put_text(out, o, b" follow-up");
+    let o = put_follow(out, o, follow);
+    put_end(out, o)
+}
+
+fn put_reject(out: &mut [u8], at: usize, bearer: u8, cause: u8) -> usize {
+    let o = put_named(out, at, b"reject", wide(bearer));
+    let o = put(out, o, b' ');
+    let o = put_number(out, o, wide(cause));
+    put_end(out, o)
+}
+
+pub(crate) fn put_reply(out: &mut [u8], at: usize, reply: Reply) -> usize {
+    let answer = reply.answer;
+    let follow = reply.follow;
+    let number = calls::reply::number(answer);
+    match answer {
+        calls::Answer::Accept(bearer) => put_accept(out, at, bearer, follow),
+        calls::Answer::Reject(bearer, _) => put_reject(out, at, bearer, number),
+        calls::Answer::Release(default) => put_named_line(out, at, b"release", default as u64),
+        calls::Answer::Reattach => put_line(out, at, b"re-attach"),
+        calls::Answer::Started(t) => put_named_line(out, at, b"started", t as u64),
+        calls::Answer::Closed(t) => put_named_line(out, at, b"closed", t as u64),
+        calls::Answer::Refused(_) => put_refused(out, at, number),
+    }
+}
+
+pub(crate) fn put_route(out: &mut [u8], at: usize, answer: route::Answer) -> usize {
+    match answer {
+        route::Answer::Routed(to) => match to {
+            Route::Bearer(bearer) => put_named_line(out, at, b"bearer", bearer as u64),
+            Route::Discard => put_line(out, at, b"discard"),
+        },
+        route::Answer::Refused(_) => put_refused(out, at, route::answer::number(answer)),
+    }
+}
+
+pub(crate) fn put_well_formed(out: &mut [u8], at: usize, fine: bool) -> usize {
+    if fine {
+        put_line(out, at, b"well formed")
+    } else {
+        put_refused(out, at, 1)
+    }
+}

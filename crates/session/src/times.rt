@@ -1,0 +1,191 @@
+// What a line asks for, as often as it asks.
+use calls::FollowUps;
+use calls::Outcome;
+use calls::Reply;
+use element::Element;
+use element::Written;
+use filter::Header;
+use table::Table;
+use table::bearer::BEARERS;
+
+const UNWRITTEN: u8 = 0xEE;
+
+// What stands before the first call; every line asks for one at least.
+fn no_reply() -> Reply {
+    Reply {
+        answer: calls::Answer::Reattach,
+        follow: FollowUps {
+            count: 0,
+            bearers: [0; BEARERS],
+        },
+    }
+}
+
+// A call as often as a line asks for it, each on the table that the one before left. Each has a loop of its own with one place that
+// calls, so that the compiler takes the call into the loop; the table and the reply are locals, so that an outcome is not copied whole.
+pub(crate) fn default_times(t: Table, bearer: u8, times: u64) -> Outcome {
+    let mut table = t;
+    let mut reply = no_reply();
+    let mut i = 0;
+    while i < times {
+        let outcome = calls::activate::activate_default(table, bearer);
+        let after = outcome.table;
+        table = after;
+        let said = outcome.reply;
+        reply = said;
+        i += 1;
+    }
+    Outcome { table, reply }
+}
+
+pub(crate) fn dedicated_times(
+    t: Table,
+    bearer: u8,
+    link: u8,
+    transaction: u8,
+    value: &[u8],
+    times: u64,
+) -> Outcome {
+    let mut table = t;
+    let mut reply = no_reply();
+    let mut i = 0;
+    while i < times {
+        let outcome = calls::activate::activate_dedicated(table, bearer, link, transaction, value);
+        let after = outcome.table;
+        table = after;
+        let said = outcome.reply;
+        reply = said;
+        i += 1;
+    }
+    Outcome { table, reply }
+}
+
+pub(crate) fn modify_times(
+    t: Table,
+    bearer: u8,
+    transaction: u8,
+    value: &[u8],
+    times: u64,
+) -> Outcome {
+    let mut table = t;
+    let mut reply = no_reply();
+    let mut i = 0;
+    while i < times {
+        let outcome = calls::modify::modify(table, bearer, transaction, value);
+        let after = outcome.table;
+        table = after;
+        let said = outcome.reply;
+        reply = said;
+        i += 1;
+    }
+    Outcome { table, reply }
+}
+
+pub(crate) fn deactivate_times(t: Table, bearer: u8, transaction: u8, times: u64) -> Outcome {
+    let mut table = t;
+    let mut reply = no_reply();
+    let mut i = 0;
+    while i < times {
+        let outcome = calls::deactivate::deactivate(table, bearer, transaction);
+        let after = outcome.table;
+        table = after;
+        let said = outcome.reply;
+        reply = said;
+        i += 1;
+    }
+    Outcome { table, reply }
+}
+
+pub(crate) fn start_times(t: Table, transaction: u8, bearer: u8, times: u64) -> Outcome {
+    let mut table = t;
+    let mut reply = no_reply();
+    let mut i = 0;
+    while i < times {
+        let outcome = calls::transaction::start(table, transaction, bearer);
+        let after = outcome.table;
+        table = after;
+        let said = outcome.reply;
+        reply = said;
+        i += 1;
+    }
+    Outcome { table, reply }
+}
+
+pub(crate) fn reject_times(t: Table, transaction: u8, cause: u8, times: u64) -> Outcome {
+    let mut table = t;
+    let mut reply = no_reply();
+    let mut i = 0;
+    while i < times {
+        let outcome = calls::deactivate::reject(table, transaction, cause);
+        let after = outcome.table;
+        table = after;
+        let said = outcome.reply;
+        reply = said;
+        i += 1;
+    }
+    Outcome { table, reply }
+}
+
+// Called in two places, so that it stays a function of its own: taken into the loop, it is compiled with the table in pieces.
+pub(crate) fn route_times(t: Table, default: u8, header: Header, times: u64) -> route::Answer {
+    let mut answer = route::choose::route(t, default, header);
+    let mut i = 1;
+    while i < times {
+        answer = route::choose::route(t, default, header);
+        i += 1;
+    }
+    answer
+}
+
+pub(crate) fn check_times(t: Table, times: u64) -> bool {
+    let mut fine = table::well_formed::well_formed(t);
+    let mut i = 1;
+    while i < times {
+        fine = table::well_formed::well_formed(t);
+        i += 1;
+    }
+    fine
+}
+
+pub(crate) fn read_times(value: &[u8], times: u64) -> Element {
+    let mut e = element::read::read(value);
+    let mut i = 1;
+    while i < times {
+        e = element::read::read(value);
+        i += 1;
+    }
+    e
+}
+
+fn fill(room: &mut [u8]) {
+    let mut i = 0;
+    while i < room.len() {
+        room[i] = UNWRITTEN;
+        i += 1;
+    }
+}
+
+fn write_once(e: Element, room: &mut [u8]) -> Written {
+    fill(room);
+    element::write::write(e, room)
+}
+
+pub(crate) fn write_times(e: Element, room: &mut [u8], times: u64) -> Written {
+    let mut written = write_once(e, room);
+    let mut i = 1;
+    while i < times {
+        written = write_once(e, room);
+        i += 1;
+    }
+    written
+}
+
+pub(crate) fn rewrite_times(value: &[u8], room: &mut [u8], times: u64) -> Written {
+    let mut written = write_once(element::read::read(value), room);
+    let mut i = 1;
+    while i < times {
+        written = write_once(element::read::read(value), room);
+        i += 1;
+    }
+    written
+}
