@@ -1,5 +1,4 @@
 // What a line does to the table: a call, or a change by hand.
-use crate::replies::put_reply;
 use crate::times::deactivate_times;
 use crate::times::dedicated_times;
 use crate::times::default_times;
@@ -29,13 +28,8 @@ use table::bearer::BEARERS;
 use table::bearer::index_of;
 use table::bearer::is_identity;
 
-// The table that a line leaves, and the place in the buffer after its reply.
-pub(crate) struct Changed {
-    pub(crate) table: Table,
-    pub(crate) at: usize,
-}
-
-fn call_times(t: Table, call: Call, octets: &[u8], times: u64) -> Outcome {
+// `octets` begin with those of the line's HEX.
+pub(crate) fn call_times(t: Table, call: Call, octets: &[u8], times: u64) -> Outcome {
     match call {
         Call::Default(bearer) => default_times(t, bearer, times),
         Call::Dedicated {
@@ -55,24 +49,6 @@ fn call_times(t: Table, call: Call, octets: &[u8], times: u64) -> Outcome {
     }
 }
 
-// `octets` begin with those of the line's HEX.
-pub(crate) fn run_call(
-    t: Table,
-    call: Call,
-    octets: &[u8],
-    times: u64,
-    out: &mut [u8],
-    at: usize,
-) -> Changed {
-    let outcome = call_times(t, call, octets, times);
-    let table = outcome.table;
-    let reply = outcome.reply;
-    Changed {
-        table,
-        at: put_reply(out, at, reply),
-    }
-}
-
 fn role_of(word: RoleWord) -> Role {
     match word {
         RoleWord::Idle => Role::Idle,
@@ -81,38 +57,41 @@ fn role_of(word: RoleWord) -> Role {
     }
 }
 
-fn with_bearer(t: Table, i: usize, b: Bearer) -> Table {
-    let mut next = t;
-    if i < BEARERS {
-        next.bearers[i] = b;
+fn with_place(b: Bearer, place: usize, f: Filter) -> Bearer {
+    let mut next = b;
+    if place < PLACES {
+        next.row[place] = f;
     }
     next
 }
 
-fn force(t: Table, i: usize, role: Role, transaction: u8) -> Table {
-    if BEARERS <= i {
-        return t;
+// `f` is the filter of the line.
+fn changed(b: Bearer, asked: Hand, f: Filter) -> Bearer {
+    match asked {
+        Hand::Force(_, word, transaction) => Bearer {
+            role: role_of(word),
+            transaction,
+            ..b
+        },
+        Hand::Place(_, plan) => with_place(b, plan.place, f),
     }
-    let b = t.bearers[i];
-    let row = b.row;
-    let forced = Bearer {
-        role,
-        transaction,
-        row,
-    };
-    with_bearer(t, i, forced)
 }
 
-fn put_in_place(t: Table, i: usize, place: usize, f: Filter) -> Table {
-    if BEARERS <= i {
-        return t;
+fn identity_of(asked: Hand) -> u8 {
+    match asked {
+        Hand::Force(identity, _, _) => identity,
+        Hand::Place(identity, _) => identity,
     }
-    if PLACES <= place {
-        return t;
+}
+
+pub(crate) fn by_hand(t: Table, asked: Hand, f: Filter) -> Table {
+    let i = index_of(identity_of(asked));
+    let mut next = t;
+    if i < BEARERS {
+        let b = next.bearers[i];
+        next.bearers[i] = changed(b, asked, f);
     }
-    let mut b = t.bearers[i];
-    b.row[place] = f;
-    with_bearer(t, i, b)
+    next
 }
 
 fn put_placed(out: &mut [u8], at: usize, identity: u8, place: usize) -> usize {
@@ -122,30 +101,10 @@ fn put_placed(out: &mut [u8], at: usize, identity: u8, place: usize) -> usize {
     put_end(out, o)
 }
 
-// `f` is the filter of the line.
-pub(crate) fn by_hand(t: Table, asked: Hand, f: Filter) -> Table {
-    match asked {
-        Hand::Force(identity, word, transaction) => force(
-            t,
-            index_of(identity),
-            role_of(word),
-            transaction,
-        ),
-        Hand::Place(identity, plan) => put_in_place(t, index_of(identity), plan.place, f),
-    }
-}
-
 pub(crate) fn put_by_hand(out: &mut [u8], at: usize, asked: Hand) -> usize {
     match asked {
         Hand::Force(identity, _, _) => put_named_line(out, at, b"forced", wide(identity)),
         Hand::Place(identity, plan) => put_placed(out, at, identity, plan.place),
-    }
-}
-
-fn names_bearer(asked: Hand) -> bool {
-    match asked {
-        Hand::Force(identity, _, _) => is_identity(identity),
-        Hand::Place(identity, _) => is_identity(identity),
     }
 }
 
@@ -155,7 +114,7 @@ pub(crate) fn judged(reader: Reader) -> Command {
     let Command::Hand(asked) = command else {
         return command;
     };
-    if names_bearer(asked) {
+    if is_identity(identity_of(asked)) {
         command
     } else {
         Command::Ask(Question::Bad)

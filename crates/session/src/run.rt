@@ -1,24 +1,25 @@
 // Lines in, one after the other, and replies out.
 use crate::ask::answer;
 use crate::change::by_hand;
+use crate::change::call_times;
 use crate::change::judged;
 use crate::change::put_by_hand;
-use crate::change::run_call;
 use crate::compose::composed;
 use crate::compose::empty_operation;
 use crate::compose::put_composed;
+use crate::replies::put_reply;
 use script::command::Command;
 use script::reader::LINE_ROOM;
 use script::reader::read_line;
 use script::reader::start_reader;
 use script::scan::MOST_OCTETS;
 use script::text::flush;
+use table::Table;
 
 // The table and the operation are locals of the loop, and a line is handed only what it needs of them: a struct of both would be copied
 // several times a line. A proved loop has to end, and nothing says that the input does: the turns count down from a number that no run
 // uses up.
-fn run_lines(chunk: &mut [u8], line: &mut [u8], octets: &mut [u8], out: &mut [u8]) {
-    let mut t = table::bearer::empty_table();
+fn run_lines(mut t: Table, chunk: &mut [u8], line: &mut [u8], octets: &mut [u8], out: &mut [u8]) {
     let mut e = empty_operation(element::Answer::Identifiers);
     let mut at = 0;
     let mut reader = start_reader();
@@ -29,9 +30,10 @@ fn run_lines(chunk: &mut [u8], line: &mut [u8], octets: &mut [u8], out: &mut [u8
         let f = reader.filter;
         match command {
             Command::Call(wanted) => {
-                let changed = run_call(t, wanted, octets, reader.times, out, at);
-                t = changed.table;
-                at = changed.at;
+                let outcome = call_times(t, wanted, octets, reader.times);
+                t = outcome.table;
+                let reply = outcome.reply;
+                at = put_reply(out, at, reply);
             }
             Command::Hand(wanted) => {
                 t = by_hand(t, wanted, f);
@@ -55,5 +57,11 @@ pub(crate) fn run_all() {
     let mut line = [0u8; LINE_ROOM];
     let mut octets = [0u8; MOST_OCTETS];
     let mut out = io::buffer();
-    run_lines(&mut chunk, &mut line, &mut octets, &mut out);
+    run_lines(
+        table::bearer::empty_table(),
+        &mut chunk,
+        &mut line,
+        &mut octets,
+        &mut out,
+    );
 }

@@ -23,107 +23,89 @@ fn no_reply() -> Reply {
 
 // A call as often as a line asks for it, each on the table that the one before left. Each has a loop of its own with one place that
 // calls, so that the compiler takes the call into the loop; the table and the reply are locals, so that an outcome is not copied whole.
-pub(crate) fn default_times(t: Table, bearer: u8, times: u64) -> Outcome {
-    let mut table = t;
+pub(crate) fn default_times(mut t: Table, bearer: u8, times: u64) -> Outcome {
     let mut reply = no_reply();
     let mut i = 0;
     while i < times {
-        let outcome = calls::activate::activate_default(table, bearer);
-        let after = outcome.table;
-        table = after;
-        let said = outcome.reply;
-        reply = said;
+        let outcome = calls::activate::activate_default(t, bearer);
+        t = outcome.table;
+        reply = outcome.reply;
         i += 1;
     }
-    Outcome { table, reply }
+    Outcome { table: t, reply }
 }
 
 pub(crate) fn dedicated_times(
-    t: Table,
+    mut t: Table,
     bearer: u8,
     link: u8,
     transaction: u8,
     value: &[u8],
     times: u64,
 ) -> Outcome {
-    let mut table = t;
     let mut reply = no_reply();
     let mut i = 0;
     while i < times {
-        let outcome = calls::activate::activate_dedicated(table, bearer, link, transaction, value);
-        let after = outcome.table;
-        table = after;
-        let said = outcome.reply;
-        reply = said;
+        let outcome = calls::activate::activate_dedicated(t, bearer, link, transaction, value);
+        t = outcome.table;
+        reply = outcome.reply;
         i += 1;
     }
-    Outcome { table, reply }
+    Outcome { table: t, reply }
 }
 
 pub(crate) fn modify_times(
-    t: Table,
+    mut t: Table,
     bearer: u8,
     transaction: u8,
     value: &[u8],
     times: u64,
 ) -> Outcome {
-    let mut table = t;
     let mut reply = no_reply();
     let mut i = 0;
     while i < times {
-        let outcome = calls::modify::modify(table, bearer, transaction, value);
-        let after = outcome.table;
-        table = after;
-        let said = outcome.reply;
-        reply = said;
+        let outcome = calls::modify::modify(t, bearer, transaction, value);
+        t = outcome.table;
+        reply = outcome.reply;
         i += 1;
     }
-    Outcome { table, reply }
+    Outcome { table: t, reply }
 }
 
-pub(crate) fn deactivate_times(t: Table, bearer: u8, transaction: u8, times: u64) -> Outcome {
-    let mut table = t;
+pub(crate) fn deactivate_times(mut t: Table, bearer: u8, transaction: u8, times: u64) -> Outcome {
     let mut reply = no_reply();
     let mut i = 0;
     while i < times {
-        let outcome = calls::deactivate::deactivate(table, bearer, transaction);
-        let after = outcome.table;
-        table = after;
-        let said = outcome.reply;
-        reply = said;
+        let outcome = calls::deactivate::deactivate(t, bearer, transaction);
+        t = outcome.table;
+        reply = outcome.reply;
         i += 1;
     }
-    Outcome { table, reply }
+    Outcome { table: t, reply }
 }
 
-pub(crate) fn start_times(t: Table, transaction: u8, bearer: u8, times: u64) -> Outcome {
-    let mut table = t;
+pub(crate) fn start_times(mut t: Table, transaction: u8, bearer: u8, times: u64) -> Outcome {
     let mut reply = no_reply();
     let mut i = 0;
     while i < times {
-        let outcome = calls::transaction::start(table, transaction, bearer);
-        let after = outcome.table;
-        table = after;
-        let said = outcome.reply;
-        reply = said;
+        let outcome = calls::transaction::start(t, transaction, bearer);
+        t = outcome.table;
+        reply = outcome.reply;
         i += 1;
     }
-    Outcome { table, reply }
+    Outcome { table: t, reply }
 }
 
-pub(crate) fn reject_times(t: Table, transaction: u8, cause: u8, times: u64) -> Outcome {
-    let mut table = t;
+pub(crate) fn reject_times(mut t: Table, transaction: u8, cause: u8, times: u64) -> Outcome {
     let mut reply = no_reply();
     let mut i = 0;
     while i < times {
-        let outcome = calls::deactivate::reject(table, transaction, cause);
-        let after = outcome.table;
-        table = after;
-        let said = outcome.reply;
-        reply = said;
+        let outcome = calls::deactivate::reject(t, transaction, cause);
+        t = outcome.table;
+        reply = outcome.reply;
         i += 1;
     }
-    Outcome { table, reply }
+    Outcome { table: t, reply }
 }
 
 // Called in two places, so that it stays a function of its own: taken into the loop, it is compiled with the table in pieces.

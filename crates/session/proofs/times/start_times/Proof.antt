@@ -6,10 +6,10 @@ use Rattle.session.proofs.times.start_times.Statement.{statement}
 use Rattle.session.proofs.times.start_times.Tie as tie
 
 abbrev Inv-loop : tie.InvT-loop
-Inv-loop transaction bearer times table₀ reply₀ i₀ table reply i = Unit {0}
+Inv-loop t₀ transaction bearer times reply₀ i₀ t reply i = Unit {0}
 
 abbrev μ-loop : tie.MeasureT-loop
-μ-loop transaction bearer times table₀ reply₀ i₀ table reply i = times - i
+μ-loop t₀ transaction bearer times reply₀ i₀ t reply i = times - i
 
 pub start-times-spec : {M : Type 1} → statement M
 start-times-spec = tie.close (tie.spec Inv-loop μ-loop (λ c κs. search needs) (λ c. search needs) (λ c κs. search needs) (λ c. search needs) (λ c. search needs) (λ c. search needs) (λ c. search needs))
