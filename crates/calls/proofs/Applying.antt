@@ -1,14 +1,15 @@
--- The walk that rewrites the bearers that change: what it stores or leaves at each index is what becomes of the bearer.
+-- The two walks of a message: what is seen of each bearer, and what is stored or left at each index, which is what becomes of the bearer.
 use mathlib.Core.Path.{_≡_, refl, sym, _∙_, ap}
 use mathlib.Core.Bool.{Bool, true, false, not, _&&_, _||_}
 use mathlib.Core.List.{List}
+use mathlib.Core.Logic.{_⊎_, ⊎-elim}
 use Prim.Native.Nat.{ℕ, _+_, _<_, _≤_}
 use native.Mathlib.Omega.{arith}
 use lib.Dec.{eqb}
-use lib.ListN.{getD, set}
+use lib.ListN.{length, set}
 use Rattle.laws.specs.Says.{pick}
 use Rattle.laws.specs.Index.{picks, tab}
-use Rattle.laws.proofs.Index.{stored-rest, tab-at}
+use Rattle.laws.proofs.Index.{stored, stored-start, stored-more, stored-done, tab-at, tab-length}
 use Rattle.laws.proofs.Says.{by-test, says-eq, never}
 use Rattle.laws.proofs.Tests.{neither}
 use Rattle.filter.specs.declared.component.Filter.{Filter}
@@ -21,7 +22,7 @@ use Rattle.table.specs.declared.bearer.Role.{Role}
 use Rattle.table.specs.declared.bearer.Role.the-variants.{Idle}
 use Rattle.table.specs.declared.bearer.Bearer.{Bearer}
 use Rattle.table.specs.declared.bearer.Table.{Table}
-use Rattle.table.specs.Bearers.{bearerCount, indexOf, identityOf, noBearer, bearerAt, roleAt, transactionAt, filterAt, View, bearerOf, tableOf, build}
+use Rattle.table.specs.Bearers.{bearerCount, indexOf, identityOf, bearerAt, roleAt, transactionAt, filterAt, View, bearerOf, tableOf, build}
 use Rattle.table.specs.Ranges.{TableInRange}
 use Rattle.table.specs.WellFormed.{wellFormed}
 use Rattle.calls.specs.declared.reply.FollowUps.{FollowUps}
@@ -33,15 +34,34 @@ use Rattle.calls.specs.Reply.{followOf, outcome}
 use Rattle.calls.specs.Lay.{takes}
 use Rattle.calls.specs.inner.Overlay.{goneIn, overlaidIn, seenOf, seenAt}
 use Rattle.calls.specs.inner.Decide.{unseen, conflictSeen, seenIn, followsSeen, fateOf, fateAt, fatedView}
-use Rattle.calls.proofs.Rows.{bearerWith, row-kept-at, Stored, store-more, store-skip}
+use Rattle.calls.proofs.Rows.{bearerWith, row-kept-at, Stored, store-more, store-skip, store-still}
 
-pub seen-transaction : (t : Table) (k : ℕ) (seen : List Seen) (taken gone : List Bool) → seen ≡ tab (seenAt taken gone t k) bearerCount → (i : ℕ) → i < bearerCount
+seen-transaction : (t : Table) (k : ℕ) (seen : List Seen) (taken gone : List Bool) → seen ≡ tab (seenAt taken gone t k) bearerCount → (i : ℕ) → i < bearerCount
     → seenIn seen i .transaction ≡ transactionAt t i
 unfolding seenOf
 seen-transaction t k seen taken gone e i l =
     ap (λ (seen : List Seen). seenIn seen i .transaction) e ∙ ap (λ (b : Seen). b .transaction) (tab-at (seenAt taken gone t k) bearerCount i unseen l)
 
--- ---- A turn of the walk. `turns` tells what role a bearer gets, where it is the named one and is laid on: a modify leaves it, an activation opens it.
+-- the marks that the element gives are so many
+pub marks-long : (e : Element) (taken gone : List Bool) → taken ≡ tab (takes (e .filters)) precedenceCount → gone ≡ tab (goneIn e) placeCount
+    → (length taken ≡ precedenceCount) × (length gone ≡ placeCount)
+marks-long e taken gone et eg = (ap length et ∙ tab-length (takes (e .filters)) precedenceCount, ap length eg ∙ tab-length (goneIn e) placeCount)
+
+-- ---- The walk that sees the bearers, each as f tells it, the index i being next
+module _ (f : ℕ → Seen) (seen₀ : List Seen) where
+  abbrev pub Seeing : List Seen → ℕ → Type 0
+  Seeing seen i = (i ≤ bearerCount) × (seen ≡ stored f seen₀ i)
+
+  pub see-start : Seeing seen₀ 0
+  see-start = (omega arith, stored-start f seen₀)
+
+  pub see-more : (seen : List Seen) (i : ℕ) (one : Seen) → i < bearerCount → one ≡ f i → Seeing seen i → Seeing (set seen i one) (i + 1)
+  see-more seen i one l e h = (omega arith, stored-more f seen₀ i seen one e (h .1))
+
+  pub see-done : (seen : List Seen) (i : ℕ) → length seen₀ ≡ bearerCount → bearerCount ≤ i → Seeing seen i → seen ≡ tab f bearerCount
+  see-done seen i n l h = stored-done f seen₀ unseen i bearerCount seen n l (h .0) (h .1)
+
+-- ---- A turn of the walk that stores them. `turns` tells what role a bearer gets, where it is the named one and is laid on: a modify leaves it, an activation opens it.
 module _ (t : Table) (k x : ℕ) (seen : List Seen) (d : Decision) (new : List Filter) (taken gone : List Bool) (turns : Bool → Role → Role) where
   abbrev v : View
   v =
@@ -50,8 +70,12 @@ module _ (t : Table) (k x : ℕ) (seen : List Seen) (d : Decision) (new : List F
       record { role = λ i. pick (fate i .cut) Idle (turns (fate i .lay && eqb i k) (roleAt t i)); transaction = w .transaction; filter = w .filter }
 
   module _ (s : Table) (i : ℕ) (f : Fate) (below : i < bearerCount) (is : f ≡ fateOf (seenIn seen i) i (eqb i k) d x) (h : Stored v t s i) where
-    laid : Bool → ℕ → Bearer → Bearer
+    abbrev laid : Bool → ℕ → Bearer → Bearer
     laid lay y b = bearerWith (turns (lay && eqb i k) (b .role)) y (tab (overlaidIn taken gone lay (eqb i k) new (b .row)) placeCount)
+
+    -- the turn stores this bearer and ends with the table r
+    abbrev Puts : Table → Bool → Bearer → Type 0
+    Puts r cut there = (b : Bearer) × (f .cut ≡ cut) × (b ≡ there) × (r ≡ tableOf (set (s .bearers) i b))
 
     becomes : Bool → Bool → ℕ → Bearer
     becomes cut lay y =
@@ -62,22 +86,16 @@ module _ (t : Table) (k x : ℕ) (seen : List Seen) (d : Decision) (new : List F
     unfolding becomes
     by-fate cut e = ap (λ (cut : Bool). becomes cut (f .lay) (f .transaction)) (sym e) ∙ ap (λ (f : Fate). becomes (f .cut) (f .lay) (f .transaction)) is
 
-    pub cut-there : (b : Bearer) → b ≡ bearerWith Idle 0 (tab (λ j. emptyFilter) placeCount) → f .cut ≡ true → Stored v t (tableOf (set (s .bearers) i b)) (i + 1)
+    cut-there : (r : Table) → Puts r true (bearerWith Idle 0 (tab (λ j. emptyFilter) placeCount)) → Stored v t r (i + 1)
     unfolding becomes
-    cut-there b e q = store-more v t s i b below (e ∙ by-fate true q) h
+    cut-there r w = rw (w .3) (store-more v t s i (w .0) below (w .2 ∙ by-fate true (w .1)) h)
 
-    -- the bearer that is to be changed still stands as it stood
-    still : bearerAt s i ≡ bearerAt t i
-    still = ap (λ (bs : List Bearer). getD bs i noBearer) (h .1) ∙ stored-rest (bearerOf v) (t .bearers) noBearer i i (omega arith)
-
-    pub laid-there : (b : Bearer)
-        → b ≡ bearerWith (turns (f .lay && eqb i k) (roleAt s i)) (f .transaction) (tab (overlaidIn taken gone (f .lay) (eqb i k) new (bearerAt s i .row)) placeCount)
-        → f .cut ≡ false → Stored v t (tableOf (set (s .bearers) i b)) (i + 1)
-    unfolding becomes laid
-    laid-there b e q = store-more v t s i b below (e ∙ ap (laid (f .lay) (f .transaction)) still ∙ by-fate false q) h
+    laid-there : (r : Table) → Puts r false (laid (f .lay) (f .transaction) (bearerAt s i)) → Stored v t r (i + 1)
+    unfolding becomes
+    laid-there r w = rw (w .3) (store-more v t s i (w .0) below (w .2 ∙ ap (laid (f .lay) (f .transaction)) (store-still v t s i h) ∙ by-fate false (w .1)) h)
 
     -- nothing is laid on it, and no transaction that is open is closed
-    pub left-there : TableInRange t → ((r : Role) → r ≡ turns false r) → seen ≡ tab (seenAt taken gone t k) bearerCount → f .cut ≡ false → f .change ≡ false → Stored v t s (i + 1)
+    left-there : TableInRange t → ((r : Role) → r ≡ turns false r) → seen ≡ tab (seenAt taken gone t k) bearerCount → f .cut ≡ false → f .change ≡ false → Stored v t s (i + 1)
     unfolding becomes fateOf overlaidIn
     left-there ok leaves e q n =
         let y = seenIn seen i .transaction in
@@ -97,6 +115,13 @@ module _ (t : Table) (k x : ℕ) (seen : List Seen) (d : Decision) (new : List F
             zero-is : (b : Bool) → eqb x 0 ≡ b → not b ≡ false → x ≡ 0
             zero-is true z q = says-eq x 0 .to z
             zero-is false z q = never refl q
+
+    -- the turn, by the three ways to its end
+    pub stored-there : {A B C : Type 0} (r : Table) → TableInRange t → ((r : Role) → r ≡ turns false r) → seen ≡ tab (seenAt taken gone t k) bearerCount
+        → (A → Puts r true (bearerWith Idle 0 (tab (λ j. emptyFilter) placeCount))) → (B → Puts r false (laid (f .lay) (f .transaction) (bearerAt s i)))
+        → (C → (f .cut ≡ false) × (f .change ≡ false) × (r ≡ s)) → A ⊎ (B ⊎ C) → Stored v t r (i + 1)
+    stored-there r ok leaves e cuts lays stays =
+        ⊎-elim (λ a. cut-there r (cuts a)) (⊎-elim (λ b. laid-there r (lays b)) (λ c. let w = stays c in rw (w .2) (left-there ok leaves e (w .0) (w .1))))
 
 -- ---- The whole message, from what each part of the code gives: `decides` and `becomes` are what the message decides and makes of the bearers
 module _ (t : Table) (bearer : ℕ) (value : List ℕ) (decides : List Seen → Bool → Answer → Decision) (becomes : ℕ → List Seen → Decision → List Filter → List Bool → List Bool → View) where

@@ -2,55 +2,52 @@
 use mathlib.Core.Path.{_≡_, refl, sym, _∙_, ap, subst}
 use mathlib.Core.Bool.{Bool, true, false, not, _&&_, _||_}
 use mathlib.Core.Logic.{⊎-elim}
-use mathlib.Core.List.{List, [], _∷_, _++_}
-use Prim.Native.Nat.{ℕ, zero, suc, _+_, _<_, _≤_}
+use mathlib.Core.List.{List, []}
+use Prim.Native.Nat.{ℕ, _<_}
 use native.Mathlib.Omega.{arith}
 use lib.Dec.{eqb, leb}
 use lib.ListN.{length, getD, replicate, getD-replicate}
 use Rattle.laws.specs.Says.{pick}
 use Rattle.laws.specs.Index.{anyBelow, picks, tab}
-use Rattle.laws.proofs.Index.{tab-at, tab-is, any-none, any-no, any-same, picks-none, picks-same, tab-same}
-use Rattle.laws.proofs.Says.{which, never, by-test, picked, says-eq, says-no, says-ne}
+use Rattle.laws.proofs.Index.{tab-at, any-none, any-no, any-same, picks-none, picks-same}
+use Rattle.laws.proofs.Says.{which, by-test, picked, says-eq, says-ne}
 use Rattle.laws.proofs.Tests.{or-false, and-comm}
 use Rattle.laws.proofs.Typed.{each-at}
 use Rattle.filter.specs.declared.component.Filter.{Filter}
 use Rattle.filter.specs.Coding.{held}
 use Rattle.filter.specs.Sizes.{placeCount, precedenceCount}
 use Rattle.filter.specs.Build.{emptyFilter}
-use Rattle.element.specs.declared.answer.BareOperation.{BareOperation}
 use Rattle.element.specs.declared.answer.BareOperation.the-variants.{DeleteTft, NoOperation}
 use Rattle.element.specs.declared.answer.SetOperation.{SetOperation}
 use Rattle.element.specs.declared.answer.Answer.{Answer as ReadAnswer}
 use Rattle.element.specs.declared.answer.Answer.the-variants.{Filters, Identifiers, Bare, Refused as readRefused}
 use Rattle.element.specs.declared.answer.Element.{Element}
-use Rattle.element.specs.Head.{deleteTft, operationOf, headFine}
+use Rattle.element.specs.Head.{longest, deleteTft, operationOf, headFine}
 use Rattle.element.specs.Framing.{Framed, notFramed, filters, identifiers, bare, framedOf}
-use Rattle.element.specs.Read.{noFilters, noMarks, Entries, badly, coded, entriesOf, twice, entryFittable, filterSet, judgedEntries, judgedFrame, readValue, readElement}
-use Rattle.element.specs.Head.{longest}
+use Rattle.element.specs.Read.{noFilters, noMarks, Entries, badly, coded, entriesOf, twice, entryFittable, judgedEntries, judgedFrame, readValue, readElement}
 use Rattle.laws.specs.Lists.{every}
 use Rattle.table.specs.declared.bearer.Role.{Role}
 use Rattle.table.specs.declared.bearer.Role.the-variants.{Idle, Default, Dedicated}
-use Rattle.table.specs.declared.bearer.Bearer.{Bearer}
 use Rattle.table.specs.declared.bearer.Table.{Table}
-use Rattle.table.specs.Bearers.{firstIdentity, bearerCount, lastTransaction, isIdentity, indexOf, identityOf, noBearer, bearerAt, inRow, roleAt, transactionAt, filterAt, View, view, bearerOf, tableOf, build, isIdle, isDefault, isDedicated, roleOf, connectionOf, inConnection, connectionAt}
+use Rattle.table.specs.Bearers.{bearerCount, lastTransaction, isIdentity, indexOf, identityOf, noBearer, bearerAt, inRow, roleAt, transactionAt, filterAt, View, view, build, isIdle, isDefault, isDedicated, roleOf, connectionOf, inConnection}
 use Rattle.table.specs.Ranges.{TableInRange}
 use Rattle.table.specs.WellFormed.{WellFormed, wellFormed}
 use Rattle.table.proofs.Meaning.{well-says, idle-says, range-says}
 use Rattle.table.proofs.Walks.{in-eleven}
 use Rattle.calls.specs.declared.reply.Answer.{Answer}
-use Rattle.calls.specs.declared.reply.Answer.the-variants.{Accept, Reject, Release, Reattach, Refused}
+use Rattle.calls.specs.declared.reply.Answer.the-variants.{Accept, Release, Reattach}
 use Rattle.calls.specs.declared.reply.Outcome.{Outcome}
 use Rattle.calls.specs.declared.seen.Seen.{Seen}
 use Rattle.calls.specs.declared.decide.Decision.{Decision}
 use Rattle.calls.specs.Reply.{outcome, answered}
 use Rattle.calls.specs.Steps.{opensAt, isOpen, closedView, closed, cutView, ofConnection, deletedIn, deletedView, holdsIn, staysIn, empties, home}
-use Rattle.calls.specs.Lay.{takenBy, takes, placedIn, loses, losesAt, conflictOnDefault, follows, laidView, released, followers, otherAt, onlyConnection, layOrRelease, layWithin, layOf}
+use Rattle.calls.specs.Lay.{takenBy, takes, loses, losesAt, conflictOnDefault, follows, laidView, released, followers, otherAt, onlyConnection, layOrRelease, layWithin, layOf}
 use Rattle.calls.specs.Modify.{mismatch, creates, deletedFilters, deletedTft, modifiedBy, modifyRead, modifyNamed, modifyOf}
 use Rattle.calls.specs.inner.Walk.{so}
 use Rattle.calls.specs.inner.Overlay.{goneIn, tookIn, remainsIn, lostIn, seenRow, overlaidIn, seenOf, seenAt}
 use Rattle.calls.specs.inner.Decide.{unseen, stopped, homeOf, conflictSeen, seenIn, roleSeen, emptiesSeen, opensSeen, mismatchSeen, defaultConflict, otherSeen, releasedSeen, onlySeen, decidedLaid, decidedBy, decidedNamed, decided, followsSeen, fateOf, fatedView}
-use Rattle.calls.proofs.Views.{role-built, transaction-built}
-use Rattle.calls.proofs.Rows.{row-kept-at}
+use Rattle.calls.proofs.Views.{views-same, transaction-built}
+use Rattle.calls.proofs.Rows.{self-built}
 use Rattle.calls.proofs.Asked.{active-at}
 use Rattle.calls.proofs.Conflicts.{mine-loses, other-loses}
 use Rattle.calls.proofs.Checks.{closed-same, role-closed}
@@ -80,17 +77,7 @@ unused value = picked UnusedIn (leb (length value) longest) _ _ (framed (framedO
     framed (identifiers xs) = refl
     framed (bare operation) = (refl, refl)
 
--- ---- Tables that are made from views
-pub views-same : (v w : View) → ((i : ℕ) → i < bearerCount → v .role i ≡ w .role i) → ((i : ℕ) → i < bearerCount → v .transaction i ≡ w .transaction i)
-    → ((i j : ℕ) → i < bearerCount → j < placeCount → v .filter i j ≡ w .filter i j) → build v ≡ build w
-views-same v w role transaction filter =
-    ap tableOf (tab-same noBearer (bearerOf v) (bearerOf w) bearerCount
-    (λ i l. rw (role i l, transaction i l, tab-same emptyFilter (v .filter i) (w .filter i) placeCount (λ j m. filter i j l m))))
-
-pub self-built : (t : Table) → TableInRange t → t ≡ build (view t)
-self-built t ok =
-    ap tableOf (tab-is noBearer (bearerOf (view t)) (t .bearers) bearerCount (ok .bearers .count) (λ i l. row-kept-at t i ok l (roleAt t i) (transactionAt t i)))
-
+-- ---- Closing a match, as a table that is made from a view
 -- closing none changes nothing
 none-closes : (x : ℕ) → eqb x 0 ≡ true → (y : ℕ) → y ≡ pick (eqb y x) 0 y
 none-closes x z y = by-test (λ r. y ≡ r) (eqb y x) 0 y (λ q. says-eq y x .to q ∙ says-eq x 0 .to z) (λ _. refl)
@@ -108,6 +95,11 @@ pub by-role : (test : Role → Bool) (a b : Bool) → test Idle ≡ false → (r
 by-role test a b z Idle h = rw z
 by-role test a b z Default h = ap (λ (c : Bool). test Default && c) (h refl)
 by-role test a b z (Dedicated link) h = ap (λ (c : Bool). test (Dedicated link) && c) (h refl)
+
+-- what each of two decisions comes to, the one that is picked comes to
+pub by-pick : (f : Decision → Outcome) (b : Bool) (d₁ d₂ : Decision) (o₁ o₂ : Outcome) → (b ≡ true → f d₁ ≡ o₁) → (b ≡ false → f d₂ ≡ o₂) → f (pick b d₁ d₂) ≡ pick b o₁ o₂
+by-pick f true d₁ d₂ o₁ o₂ taken left = taken refl
+by-pick f false d₁ d₂ o₁ o₂ taken left = left refl
 
 -- ---- One message
 module _ (t : Table) (ok : TableInRange t) (bearer x : ℕ) (value : List ℕ) where
@@ -139,10 +131,6 @@ module _ (t : Table) (ok : TableInRange t) (bearer x : ℕ) (value : List ℕ) w
   -- what a decision comes to
   abbrev pub meant : Decision → Outcome
   meant d = outcome (fated d) (d .answer) (picks (followsSeen seen d) identityOf bearerCount)
-
-  by-pick : (b : Bool) (d₁ d₂ : Decision) (o₁ o₂ : Outcome) → (b ≡ true → meant d₁ ≡ o₁) → (b ≡ false → meant d₂ ≡ o₂) → meant (pick b d₁ d₂) ≡ pick b o₁ o₂
-  by-pick true d₁ d₂ o₁ o₂ taken left = taken refl
-  by-pick false d₁ d₂ o₁ o₂ taken left = left refl
 
   -- what is read where
   pub took-at : (i j : ℕ) → i < bearerCount → j < placeCount → getD taken (filterAt t i j .precedence) false ≡ takes new (filterAt t i j .precedence)
@@ -458,7 +446,7 @@ module _ (t : Table) (ok : TableInRange t) (bearer x : ℕ) (value : List ℕ) w
     by-means Identifiers q u =
         let gone : (j : ℕ) → j < placeCount → goneIn e j ≡ getD (e .marks) j false = λ j m. rw (q, none-new u j m) refl in
         rw (empties-same (e .marks) gone)
-        (by-pick (isDedicated (roleOf s bearer) && empties s k (e .marks)) _ _ _ _ (λ _. closes _) (λ _. deletes-to u (e .marks) gone))
+        (by-pick meant (isDedicated (roleOf s bearer) && empties s k (e .marks)) _ _ _ _ (λ _. closes _) (λ _. deletes-to u (e .marks) gone))
     by-means (Bare DeleteTft) q u = deletes-to (u .0) (replicate placeCount true) (λ j m. rw q (sym (getD-replicate placeCount j true false m)))
     by-means (Bare NoOperation) q u = leaves-to (u .0) (λ j m. rw (q, none-new (u .0) j m, u .1) (getD-replicate placeCount j false false m))
 
@@ -467,14 +455,14 @@ module _ (t : Table) (ok : TableInRange t) (bearer x : ℕ) (value : List ℕ) w
   unfolding decidedNamed modifyNamed modifyRead
   named-means well =
       rw (role-seen bearer)
-      (by-pick (isIdle (roleOf s bearer)) _ _ _ _ (λ _. closes _) (λ a.
-      by-pick (headFine value) _ _ _ _ (λ _.
-      by-pick (isDedicated (roleOf s bearer) && eqb (operationOf value) deleteTft) _ _ _ _ (λ _. closes _) (λ _.
+      (by-pick meant (isIdle (roleOf s bearer)) _ _ _ _ (λ _. closes _) (λ a.
+      by-pick meant (headFine value) _ _ _ _ (λ _.
+      by-pick meant (isDedicated (roleOf s bearer) && eqb (operationOf value) deleteTft) _ _ _ _ (λ _. closes _) (λ _.
       by-means (well-says t ok .to well) (ap isIdle (sym (role-closed t ok x bearer)) ∙ a) (e .answer) refl (unused value))) (λ _. closes _)))
 
   pub decided-means : meant (decided seen (wellFormed t) (e .answer) bearer x value) ≡ modifyOf t bearer x value
   unfolding decided modifyOf
   decided-means =
       rw mismatch-seen
-      (by-pick (wellFormed t) _ _ _ _ (λ well.
-      by-pick (mismatch t x) _ _ _ _ (λ _. stops _) (λ _. named-means well)) (λ _. stops _))
+      (by-pick meant (wellFormed t) _ _ _ _ (λ well.
+      by-pick meant (mismatch t x) _ _ _ _ (λ _. stops _) (λ _. named-means well)) (λ _. stops _))

@@ -1,4 +1,3 @@
-pub mod Typed
 pub mod Rows
 pub mod Views
 pub mod Asked
@@ -19,3 +18,4 @@ pub mod Thin
 pub mod Deciding
 pub mod Applying
 pub mod Opening
+pub mod Plainly

@@ -11,7 +11,7 @@ use Rattle.laws.specs.Says.{pick}
 use Rattle.laws.specs.Index.{picks, tab}
 use Rattle.laws.proofs.Index.{any-none, any-same, picks-same}
 use Rattle.laws.proofs.Says.{which, picked, says-eq}
-use Rattle.laws.proofs.Tests.{and-comm}
+use Rattle.laws.proofs.Tests.{and-comm, both}
 use Rattle.laws.proofs.Typed.{each-at}
 use Rattle.filter.specs.declared.component.Filter.{Filter}
 use Rattle.filter.specs.Coding.{held}
@@ -19,8 +19,7 @@ use Rattle.filter.specs.Sizes.{placeCount, precedenceCount}
 use Rattle.filter.specs.Build.{emptyFilter}
 use Rattle.element.specs.declared.answer.Answer.{Answer as ReadAnswer}
 use Rattle.element.specs.declared.answer.Element.{Element}
-use Rattle.element.specs.Head.{operationOf, headFine}
-use Rattle.element.specs.Framing.{filters}
+use Rattle.element.specs.Head.{operationOf, headFine, create}
 use Rattle.element.specs.Read.{readElement}
 use Rattle.table.specs.declared.bearer.Role.{Role}
 use Rattle.table.specs.declared.bearer.Role.the-variants.{Idle, Dedicated}
@@ -34,30 +33,24 @@ use Rattle.calls.specs.declared.reply.Answer.the-variants.{Accept, Rejec
 use Rattle.calls.specs.declared.reply.Outcome.{Outcome}
 use Rattle.calls.specs.declared.seen.Seen.{Seen}
 use Rattle.calls.specs.declared.decide.Decision.{Decision}
-use Rattle.calls.specs.Reply.{outcome, answered}
-use Rattle.calls.specs.Steps.{closed, cutView, ofConnection, home}
-use Rattle.calls.specs.Lay.{takes, placedIn, loses, losesAt, conflictOnDefault, follows, laidView, released, followers, otherAt, onlyConnection, layOrRelease, layWithin, layOf}
-use Rattle.calls.specs.Modify.{mismatch, creates}
+use Rattle.calls.specs.Reply.{outcome, answered, causeOf}
+use Rattle.calls.specs.Steps.{closed, cutView, ofConnection, home, openedView}
+use Rattle.calls.specs.Lay.{takes, placedIn, loses, losesAt, conflictOnDefault, follows, laidView, released, followers, otherAt, onlyConnection, layOrRelease, layWithin, layOf, old, conflict, conflictIn}
+use Rattle.calls.specs.Modify.{mismatch}
 use Rattle.calls.specs.inner.Walk.{so}
 use Rattle.calls.specs.inner.Overlay.{goneIn, overlaidIn, seenAt}
-use Rattle.calls.specs.inner.Decide.{stopped, conflictSeen, seenIn, roleSeen, defaultConflict, otherSeen, releasedSeen, onlySeen, decidedLaid, followsSeen, fateOf, fatedView}
-use Rattle.calls.proofs.Views.{role-built, transaction-built}
+use Rattle.calls.specs.inner.Decide.{stopped, conflictSeen, seenIn, roleSeen, defaultConflict, otherSeen, releasedSeen, onlySeen, decidedLaid, followsSeen, fateOf, fatedView, availableSeen, decidedCreated, decidedOpened, decidedDedicated, openedFated}
+use Rattle.calls.proofs.Views.{views-same, role-built, transaction-built}
 use Rattle.calls.proofs.Conflicts.{mine-loses, other-loses}
 use Rattle.calls.proofs.Overlays.{overlaid-placed, row-loses}
-use Rattle.laws.proofs.Tests.{both}
 use Rattle.element.specs.Numbers.{verdictOn}
-use Rattle.element.specs.Head.{create}
 use Rattle.element.proofs.Theorems.{create-reads}
 use Rattle.calls.specs.declared.reply.Cause.the-variants.{TftSemantics, TftSyntax, BearerIdentity}
-use Rattle.calls.specs.Reply.{causeOf}
-use Rattle.calls.specs.Steps.{openedView}
-use Rattle.calls.specs.Lay.{old, conflict, conflictIn}
 use Rattle.calls.specs.Others.{available, activatedBy, activateRead, activateNamed, activateDedicatedOf}
 use Rattle.calls.specs.Checks.{Available}
-use Rattle.calls.specs.inner.Decide.{availableSeen, decidedCreated, decidedOpened, decidedDedicated, openedFated}
 use Rattle.calls.proofs.Asked.{available-says}
 use Rattle.calls.proofs.Laying.{row-as}
-use Rattle.calls.proofs.Deciding.{views-same, by-role, meant, took-at, gone-at, role-at, transaction-at, loses-at, stays-none, stops, closes, mismatch-seen, role-seen, s-role, s-row, s-transaction, spared}
+use Rattle.calls.proofs.Deciding.{by-role, by-pick, meant, took-at, gone-at, role-at, transaction-at, loses-at, stays-none, stops, closes, mismatch-seen, role-seen, s-role, s-row, s-transaction, spared}
 
 -- ---- One message
 module _ (t : Table) (ok : TableInRange t) (bearer link x : ℕ) (value : List ℕ) where
@@ -94,10 +87,6 @@ module _ (t : Table) (ok : TableInRange t) (bearer link x : ℕ) (value : List �
 
   abbrev opened : Decision → Outcome
   opened d = outcome (fated d) (d .answer) (picks (followsSeen seen d) identityOf bearerCount)
-
-  by-pick : (b : Bool) (d₁ d₂ : Decision) (o₁ o₂ : Outcome) → (b ≡ true → opened d₁ ≡ o₁) → (b ≡ false → opened d₂ ≡ o₂) → opened (pick b d₁ d₂) ≡ pick b o₁ o₂
-  by-pick true d₁ d₂ o₁ o₂ taken left = taken refl
-  by-pick false d₁ d₂ o₁ o₂ taken left = left refl
 
   -- a decision that changes nothing opens nothing
   unopened : (d : Decision) → d .change ≡ false → opened d ≡ meant t ok bearer x value d
@@ -296,9 +285,9 @@ module _ (t : Table) (ok : TableInRange t) (bearer link x : ℕ) (value : List �
   unfolding decidedOpened activateNamed activateRead
   named-means well =
       ap (λ (b : Bool). opened (pick b (pick (headFine value) (pick (eqb (operationOf value) create) (decidedCreated seen (verdictOn (e .answer)) bearer link) (stopped (Reject bearer TftSemantics) true)) (stopped (Reject bearer TftSyntax) true)) (stopped (Reject bearer BearerIdentity) true))) available-same
-      ∙ by-pick (available s bearer && isDefault (roleOf s link)) _ _ _ _ (λ a.
-      by-pick (headFine value) _ _ _ _ (λ _.
-      by-pick (eqb (operationOf value) create) _ _ _ _ (λ q. created-means (well-says t ok .to well) (free (both (available s bearer) (isDefault (roleOf s link)) a .0)) (says-eq (operationOf value) create .to q)) (λ _. closed-o _)) (λ _. closed-o _)) (λ _. closed-o _)
+      ∙ by-pick opened (available s bearer && isDefault (roleOf s link)) _ _ _ _ (λ a.
+      by-pick opened (headFine value) _ _ _ _ (λ _.
+      by-pick opened (eqb (operationOf value) create) _ _ _ _ (λ q. created-means (well-says t ok .to well) (free (both (available s bearer) (isDefault (roleOf s link)) a .0)) (says-eq (operationOf value) create .to q)) (λ _. closed-o _)) (λ _. closed-o _)) (λ _. closed-o _)
     where
       free : available s bearer ≡ true → Available t bearer
       free a = let h = available-says s bearer .to a in (h .0, s-role t ok bearer x value k (omega (arith, h .0 .0, h .0 .1)) ∙ h .1)
@@ -307,5 +296,5 @@ module _ (t : Table) (ok : TableInRange t) (bearer link x : ℕ) (value : List �
   unfolding decidedDedicated activateDedicatedOf
   opened-means =
       rw (mismatch-seen t ok bearer x value)
-      (by-pick (wellFormed t) _ _ _ _ (λ well.
-      by-pick (mismatch t x) _ _ _ _ (λ _. stopped-o _) (λ _. named-means well)) (λ _. stopped-o _))
+      (by-pick opened (wellFormed t) _ _ _ _ (λ well.
+      by-pick opened (mismatch t x) _ _ _ _ (λ _. stopped-o _) (λ _. named-means well)) (λ _. stopped-o _))

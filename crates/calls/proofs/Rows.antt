@@ -1,15 +1,11 @@
 -- The bearers of a table as a view tells them: one that keeps its row, and a loop that stores each in its turn.
-use mathlib.Core.Path.{_≡_, refl, sym, _∙_, ap, subst}
+use mathlib.Core.Path.{_≡_, refl, _∙_, ap}
 use mathlib.Core.List.{List}
-use mathlib.Core.Logic.{⊎-elim}
 use Prim.Native.Nat.{ℕ, _+_, _<_, _≤_}
 use native.Mathlib.Omega.{arith}
-use lib.Dec.{eqb}
-use lib.ListN.{length, getD, set, length-set}
-use lib.Seq.{getD-set-same, getD-set-other}
+use lib.ListN.{getD, set}
 use Rattle.laws.specs.Index.{tab}
-use Rattle.laws.proofs.Index.{tab-is, stored, stored-start, stored-more, stored-skip, stored-done}
-use Rattle.laws.proofs.Says.{which, says-eq, says-ne}
+use Rattle.laws.proofs.Index.{tab-is, stored, stored-start, stored-more, stored-rest, stored-skip, stored-done}
 use Rattle.laws.proofs.Typed.{each-at}
 use Rattle.filter.specs.declared.component.Filter.{Filter}
 use Rattle.table.specs.declared.bearer.Role.{Role}
@@ -17,23 +13,22 @@ use Rattle.table.specs.declared.bearer.Bearer.{Bearer}
 use Rattle.table.specs.declared.bearer.Table.{Table}
 use Rattle.filter.specs.Sizes.{placeCount}
 use Rattle.filter.specs.Build.{emptyFilter}
-use Rattle.table.specs.Bearers.{bearerCount, noBearer, bearerAt, inRow, filterAt, View, bearerOf, tableOf, build}
+use Rattle.table.specs.Bearers.{bearerCount, noBearer, bearerAt, roleAt, transactionAt, filterAt, View, view, bearerOf, tableOf, build}
 use Rattle.table.specs.Ranges.{TableInRange}
-
--- a row is what stands in it
-pub row-self : (row : List Filter) → length row ≡ placeCount → row ≡ tab (inRow row) placeCount
-row-self row e = tab-is emptyFilter (inRow row) row placeCount e (λ j l. refl)
 
 -- a bearer that keeps its row
 abbrev pub bearerWith : Role → ℕ → List Filter → Bearer
 bearerWith role x row = record { role = role; transaction = x; row = row }
 
-pub row-kept : (role : Role) (x : ℕ) (row : List Filter) → length row ≡ placeCount → bearerWith role x row ≡ bearerWith role x (tab (inRow row) placeCount)
-row-kept role x row e = ap (bearerWith role x) (row-self row e)
-
 pub row-kept-at : (t : Table) (i : ℕ) → TableInRange t → i < bearerCount → (role : Role) (x : ℕ)
     → bearerWith role x (bearerAt t i .row) ≡ bearerWith role x (tab (filterAt t i) placeCount)
-row-kept-at t i ok l role x = row-kept role x (bearerAt t i .row) (each-at (ok .bearers) noBearer i l .row .count)
+row-kept-at t i ok l role x =
+    ap (bearerWith role x) (tab-is emptyFilter (filterAt t i) (bearerAt t i .row) placeCount (each-at (ok .bearers) noBearer i l .row .count) (λ j l. refl))
+
+-- a table is made from its own view
+pub self-built : (t : Table) → TableInRange t → t ≡ build (view t)
+self-built t ok =
+    ap tableOf (tab-is noBearer (bearerOf (view t)) (t .bearers) bearerCount (ok .bearers .count) (λ i l. row-kept-at t i ok l (roleAt t i) (transactionAt t i)))
 
 -- ---- a loop that stores the view's bearers, the index i being next: t is the table before the loop
 module _ (v : View) (t : Table) where
@@ -50,26 +45,10 @@ module _ (v : View) (t : Table) where
   store-done s i ok l h =
       ap tableOf (stored-done (bearerOf v) (t .bearers) noBearer i bearerCount (s .bearers) (ok .bearers .count) l (h .0) (h .1))
 
+  -- the bearer at the index still stands as it stood
+  pub store-still : (s : Table) (i : ℕ) → Stored s i → bearerAt s i ≡ bearerAt t i
+  store-still s i h = ap (λ (bs : List Bearer). getD bs i noBearer) (h .1) ∙ stored-rest (bearerOf v) (t .bearers) noBearer i i (omega arith)
+
   -- the bearer that stands there is the view's
   pub store-skip : (s : Table) (i : ℕ) → i < bearerCount → bearerAt t i ≡ bearerOf v i → Stored s i → Stored s (i + 1)
   store-skip s i l e h = (omega arith, stored-skip (bearerOf v) (t .bearers) noBearer i (s .bearers) e (h .1))
-
-  -- ---- one store, at k: all others are the view's as they stand
-  abbrev pub Beside : ℕ → Type 0
-  Beside k = (i : ℕ) → i < bearerCount → (i ≡ k → ⊥) → bearerAt t i ≡ bearerOf v i
-
-  pub store-one : (k : ℕ) (b : Bearer) → TableInRange t → k < bearerCount → b ≡ bearerOf v k → Beside k → tableOf (set (t .bearers) k b) ≡ build v
-  store-one k b ok l e others =
-      ap tableOf (tab-is noBearer (bearerOf v) (set (t .bearers) k b) bearerCount (length-set (t .bearers) k b ∙ ok .bearers .count) at)
-    where
-      at : (i : ℕ) → i < bearerCount → getD (set (t .bearers) k b) i noBearer ≡ bearerOf v i
-      at i m =
-          ⊎-elim
-          (λ q. subst (λ (i : ℕ). getD (set (t .bearers) k b) i noBearer ≡ bearerOf v i) (sym (says-eq i k .to q))
-          (getD-set-same (t .bearers) k b noBearer (omega (arith, ok .bearers .count)) ∙ e))
-          (λ q. let n : i ≡ k → ⊥ = says-ne (says-eq i k) q in getD-set-other (t .bearers) k i b noBearer n ∙ others i m n) (which (eqb i k))
-
-  -- no store, for an index past the end
-  pub store-past : (k : ℕ) → TableInRange t → bearerCount ≤ k → Beside k → t ≡ build v
-  store-past k ok l others =
-      ap tableOf (tab-is noBearer (bearerOf v) (t .bearers) bearerCount (ok .bearers .count) (λ i m. others i m (λ e. omega arith)))

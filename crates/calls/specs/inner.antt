@@ -1,3 +1,4 @@
 pub mod Walk
 pub mod Overlay
 pub mod Decide
+pub mod Plain

@@ -53,7 +53,7 @@ fn stop(answer: Answer, close: bool) -> Decision
     }
 }
 
-fn opens_any(seen: [Seen; BEARERS], x: u8) -> bool
+pub(crate) fn opens_any(seen: [Seen; BEARERS], x: u8) -> bool
     ensures { λ r. ⌜ r ≡ anyBelow (opensSeen seen x) bearerCount ⌝ }
 {
     let mut any = false;
@@ -70,7 +70,7 @@ fn mismatches(seen: [Seen; BEARERS], x: u8) -> bool
     !(x == 0) & !((x <= LAST_TRANSACTION) & opens_any(seen, x))
 }
 
-fn role_seen(seen: [Seen; BEARERS], bearer: u8) -> Role
+pub(crate) fn role_seen(seen: [Seen; BEARERS], bearer: u8) -> Role
     ensures { λ r. ⌜ r ≡ roleSeen seen bearer ⌝ }
 {
     if is_identity(bearer) {
@@ -220,7 +220,7 @@ pub(crate) fn decide(
     decide_named(seen, bearer, said, value)
 }
 
-fn is_available(seen: [Seen; BEARERS], bearer: u8) -> bool
+pub(crate) fn is_available(seen: [Seen; BEARERS], bearer: u8) -> bool
     ensures { λ r. ⌜ r ≡ availableSeen seen bearer ⌝ }
 {
     is_identity(bearer) & is_idle(role_seen(seen, bearer))

@@ -5,9 +5,9 @@ mod decide;
 pub mod in_place;
 pub mod modify;
 mod overlay;
+mod plain;
 pub mod reply;
 mod seen;
-mod steps;
 pub mod transaction;
 
 pub use reply::Answer;

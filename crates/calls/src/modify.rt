@@ -4,18 +4,15 @@ ghost use Rattle.laws.specs.Index.{tab};
 ghost use Rattle.filter.specs.Build.{emptyFilter};
 ghost use Rattle.filter.specs.Sizes.{placeCount};
 ghost use Rattle.table.specs.declared.bearer.Role.the-variants.{Idle};
-ghost use Rattle.calls.specs.Modify.{malformed, creates, modifyOf};
+ghost use Rattle.calls.specs.Modify.{creates, modifyOf};
 use crate::decide::decide;
 use crate::decide::fate_of;
 use crate::decide::followers;
 use crate::overlay::gone_by;
 use crate::overlay::overlaid;
 use crate::overlay::taken_by;
-use crate::reply::Answer;
 use crate::reply::Outcome;
-use crate::reply::Refusal;
 use crate::reply::Reply;
-use crate::reply::answer_with;
 use crate::seen::nothing_seen;
 use crate::seen::see;
 use element::SetOperation;
@@ -28,12 +25,6 @@ use table::Table;
 use table::bearer::BEARERS;
 use table::bearer::index_of;
 use table::well_formed::well_formed;
-
-pub(crate) fn malformed_table(t: Table) -> Outcome
-    ensures { λ r. ⌜ r ≡ malformed t ⌝ }
-{
-    answer_with(t, Answer::Refused(Refusal::NotWellFormed))
-}
 
 pub(crate) fn does_create(operation: SetOperation) -> bool
     ensures { λ r. ⌜ r ≡ creates operation ⌝ }

@@ -1,7 +1,7 @@
 // What a call gives.
 ghost use mathlib.Core.Path.{_≡_};
 ghost use mathlib.Core.List.{[]};
-ghost use Rattle.calls.specs.Reply.{causeNumber, refusalNumber, numberOf, causeOf, followOf, answered, rejectedWith};
+ghost use Rattle.calls.specs.Reply.{causeNumber, refusalNumber, numberOf, causeOf, followOf, answered};
 use table::Table;
 use table::bearer::BEARERS;
 
@@ -120,10 +120,4 @@ pub(crate) fn answer_with(t: Table, answer: Answer) -> Outcome
         table: t,
         reply: Reply { answer, follow },
     }
-}
-
-pub(crate) fn reject_with(t: Table, bearer: u8, cause: Cause) -> Outcome
-    ensures { λ r. ⌜ r ≡ rejectedWith t bearer cause ⌝ }
-{
-    answer_with(t, Answer::Reject(bearer, cause))
 }

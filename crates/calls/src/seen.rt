@@ -1,17 +1,13 @@
 // What one walk sees of each bearer of a table.
 ghost use mathlib.Core.Path.{_≡_};
 ghost use lib.ListN.{length};
-ghost use Rattle.laws.specs.Index.{tab};
 ghost use Rattle.filter.specs.Sizes.{placeCount, precedenceCount};
-ghost use Rattle.table.specs.Bearers.{bearerCount};
-ghost use Rattle.calls.specs.inner.Overlay.{seenRow, seenOf, seenAt};
+ghost use Rattle.calls.specs.inner.Overlay.{seenRow, seenOf};
 ghost use Rattle.calls.specs.inner.Decide.{unseen};
 use crate::overlay::held_where;
 use filter::component::PLACES;
 use table::Bearer;
 use table::Role;
-use table::Table;
-use table::bearer::BEARERS;
 use table::bearer::is_idle;
 
 // `loses`: a filter that remains has a new filter's precedence. `empties`: it is the named bearer and holds filters, of which none remains.
@@ -83,16 +79,4 @@ pub(crate) fn see(b: Bearer, named: bool, taken: &[bool], gone: &[bool]) -> Seen
         loses: row.loses,
         empties: row.empties,
     }
-}
-
-pub(crate) fn seen_of(t: Table, k: usize, taken: &[bool], gone: &[bool]) -> [Seen; BEARERS]
-    requires { ⌜ (length (now taken) ≡ precedenceCount) × (length (now gone) ≡ placeCount) ⌝ }
-    ensures { λ r. ⌜ r ≡ tab (seenAt (now (taken .entry)) (now (gone .entry)) t k) bearerCount ⌝ }
-{
-    let mut seen = [nothing_seen(); BEARERS];
-    for i in 0..BEARERS {
-        let b = t.bearers[i];
-        seen[i] = see(b, i == k, taken, gone);
-    }
-    seen
 }

@@ -1,19 +1,69 @@
 -- `calls::activate::activate_dedicated` meets its contract: the bearers are seen, what comes of the message is decided, and each bearer is stored as it becomes.
 -- Assumes nothing.
+use mathlib.Core.Path.{refl}
+use mathlib.Core.Bool.{Bool}
+use Prim.Native.Nat.{ℕ, _-_}
+use Rattle.laws.specs.Says.{pick}
+use Rattle.table.specs.declared.bearer.Role.{Role}
+use Rattle.table.specs.declared.bearer.Role.the-variants.{Dedicated}
+use Rattle.table.specs.Bearers.{bearerCount}
 use Rattle.table.proofs.Typed.{table-in-range}
-use Rattle.calls.specs.Others.{activateDedicatedOf}
+use Rattle.calls.specs.inner.Overlay.{seenAt}
 use Rattle.calls.specs.inner.Decide.{decidedDedicated, openedFated}
-use Rattle.calls.proofs.Applying.{whole}
+use Rattle.calls.proofs.Rows.{Stored, store-start, store-done}
+use Rattle.calls.proofs.Applying.{marks-long, Seeing, see-start, see-more, see-done, stored-there, whole}
 use Rattle.calls.proofs.Opening.{opened-means}
 use borrow.Author.Needs.{needs}
 use Rattle.calls.proofs.activate.activate_dedicated.Statement.{statement}
 use Rattle.calls.proofs.activate.activate_dedicated.Tie as tie
 
-returns : tie.Need-returns
+-- an activation opens the named bearer with this link
+abbrev opens : ℕ → Bool → Role → Role
+opens link named r = pick named (Dedicated link) r
+
+abbrev Inv-loop : tie.InvT-loop
+Inv-loop bearer link transaction value fine k said new taken gone s seen₀ i₀ seen i = Seeing (seenAt taken gone s k) seen₀ seen i
+
+abbrev μ-loop : tie.MeasureT-loop
+μ-loop bearer link transaction value fine k said new taken gone s seen₀ i₀ seen i = bearerCount - i
+
+abbrev Inv-loop2 : tie.InvT-loop2
+Inv-loop2 bearer link transaction value fine k new taken gone s₀ seen d i₀ s i = Stored (openedFated s₀ k transaction seen d new taken gone link) s₀ s i
+
+abbrev μ-loop2 : tie.MeasureT-loop2
+μ-loop2 bearer link transaction value fine k new taken gone s₀ seen d i₀ s i = bearerCount - i
+
+see-requires : tie.Need-see-requires Inv-loop μ-loop Inv-loop2 μ-loop2
+see-requires c κs = let p = c .before .before .before .before .before .before in marks-long _ _ _ (p .before .taken-by .ensures) (p .gone-by .ensures)
+
+loop-again : tie.Need-loop-again Inv-loop μ-loop Inv-loop2 μ-loop2
+loop-again c =
+    let l = c .before .before .before .before .before .loop in
+    see-more _ _ (l .seen) (l .i) _ (c .before .before .before .before .loop-test .taken) (c .see .ensures) (l .inv)
+
+overlaid-requires : tie.Need-overlaid-requires Inv-loop μ-loop Inv-loop2 μ-loop2
+overlaid-requires c κs =
+    let p = c .before .before .before .before .before .before .before .before .before .before .before .before .before in
+    marks-long _ _ _ (p .before .taken-by .ensures) (p .gone-by .ensures)
+
+loop2-again : tie.Need-loop2-again Inv-loop μ-loop Inv-loop2 μ-loop2
+loop2-again c =
+    let l = c .before .before .before .before .loop2 in
+    let q = c .before .before .before .before .before in
+    let first = q .before .before .loop in
+    let start = q .before .before .before .before .before .before .before .before .before .before .before in
+    let f = c .before .fate-of in
+    stored-there _ _ _ _ _ _ _ _ (opens (start .args .link)) _ _ _ (c .before .before .before .loop2-test .taken) (f .ensures) (l .inv) _ (table-in-range (start .args .t) _ (start .good .0)) (λ r. refl)
+    (see-done _ _ (first .seen) (first .i) refl (q .before .loop-test .left) (first .inv))
+    (λ w. (w .1 .result, w .0 .taken, w .1 .ensures, w .2)) (λ w. (w .7 .result, w .0 .left, rw (w .7 .ensures, w .5 .ensures), w .8)) (λ w. (w .0 .left, w .1 .left, w .2)) (c .if1 .came)
+
+returns : tie.Need-returns Inv-loop μ-loop Inv-loop2 μ-loop2
 returns c =
-    let p = c .before .before .before .before .before in
-    let q = p .before .before .before in
-    let start = q .before .before .before .before .before .before .before in
+    let l = c .before .before .loop2 in
+    let q = c .before .before .before in
+    let first = q .before .before .loop in
+    let p = q .before .before .before in
+    let start = p .before .before .before .before .before .before .before .before in
     let t = start .args .t in
     let bearer = start .args .bearer in
     let link = start .args .link in
@@ -21,14 +71,25 @@ returns c =
     let value = start .args .value .now in
     let ok = table-in-range t _ (start .good .0) in
     whole t bearer value (λ seen fine said. decidedDedicated seen fine said bearer link x value) (λ k seen d new taken gone. openedFated t k x seen d new taken gone link)
-    (activateDedicatedOf t bearer link x value) (opened-means t ok bearer link x value) _ _ _ _ _ _ _ _ _ (q .before .before .before .before .before .well-formed .ensures)
-    (q .before .before .before .before .index-of .ensures) (q .before .before .before .read .ensures) (q .before .taken-by .ensures) (q .gone-by .ensures) (p .seen-of .ensures)
-    (c .before .before .before .before .decide-dedicated .ensures) (c .before .opened-and-laid .ensures) (c .followers .ensures)
+    _ (opened-means t ok bearer link x value) _ _ _ _ _ _ _ _ _
+    (p .before .before .before .before .before .before .well-formed .ensures) (p .before .before .before .before .before .index-of .ensures) (p .before .before .before .before .read .ensures)
+    (p .before .before .taken-by .ensures) (p .before .gone-by .ensures) (see-done _ _ (first .seen) (first .i) refl (q .before .loop-test .left) (first .inv))
+    (q .decide-dedicated .ensures) (store-done _ _ (l .s) (l .i) ok (c .before .loop2-test .left) (l .inv)) (c .followers .ensures)
 
 pub activate-dedicated-spec : {M : Type 1} → statement M
 activate-dedicated-spec =
     tie.close
     (tie.spec
-    (λ c κs. search needs) (λ c κs. search needs) (λ c κs. search needs) (λ c κs. search needs) (λ c κs. search needs) (λ c. search needs) (λ c. search needs)
-    (λ c κs. search needs) (λ c κs. search needs) (λ c. search needs) (λ c. search needs) (λ c κs. search needs) (λ c κs. search needs)
+    Inv-loop μ-loop Inv-loop2 μ-loop2
+    (λ c κs. search needs) (λ c κs. search needs) (λ c κs. search needs) (λ c κs. search needs) (λ c κs. search needs) (λ c κs. search needs)
+    (λ c. see-start _ _) (λ c. search needs) (λ c. search needs) (λ c. search needs) (λ c. search needs)
+    see-requires
+    (λ c. search needs) (λ c. search needs) (λ c. search needs) (λ c. search needs)
+    loop-again
+    (λ c κs. search needs) (λ c. store-start _ _) (λ c. search needs) (λ c. search needs) (λ c κs. search needs) (λ c κs. search needs)
+    (λ c. search needs) (λ c. search needs) (λ c. search needs) (λ c. search needs) (λ c. search needs) (λ c. search needs)
+    overlaid-requires
+    (λ c κs. search needs) (λ c. search needs) (λ c. search needs) (λ c. search needs) (λ c. search needs)
+    loop2-again
+    (λ c κs. search needs)
     returns)

@@ -1,29 +1,34 @@
--- `calls::activate::activate_default` meets its contract: a malformed table is refused, then an identity that is in use or out of range; else the bearer is a default.
+-- `calls::activate::activate_default` meets its contract: what is decided of it from a glance is what Others says, where the table stands and where the bearers are rewritten.
 -- Assumes nothing.
-use mathlib.Core.Path.{_≡_, sym, _∙_}
-use mathlib.Core.Bool.{true}
-use borrow.Author.Tests.{not-true, not-false}
-use Rattle.table.specs.WellFormed.{wellFormed}
-use Rattle.calls.specs.Others.{activateDefaultOf}
+use mathlib.Core.Path.{_∙_}
+use Rattle.table.proofs.Typed.{table-in-range}
+use Rattle.calls.specs.declared.plain.Plain.the-variants.{Default as askDefault}
+use Rattle.calls.proofs.Plainly.{plain-stands, plain-moves}
 use borrow.Author.Needs.{needs}
 use Rattle.calls.proofs.activate.activate_default.Statement.{statement}
 use Rattle.calls.proofs.activate.activate_default.Tie as tie
 
-fine : (c : tie.Else1) → wellFormed (c .before .before .args .t) ≡ true
-fine c = sym (c .before .well-formed .ensures) ∙ not-false _ (c .if1 .left)
+returns : tie.Need-returns
+returns c =
+    let d = c .before .before .before in
+    let start = d .before .before .before in
+    let a = start .args in
+    c .answer-with .ensures
+    ∙ plain-stands (a .t) (table-in-range (a .t) _ (start .good .0)) (askDefault (a .bearer)) (d .before .well-formed .ensures) (d .before .before .glance .ensures) (d .decide-plain .ensures)
+    (c .before .before .stands .ensures) (c .before .if1 .taken)
+
+returns-2 : tie.Need-returns-2
+returns-2 c =
+    let d = c .before .before .before .before in
+    let start = d .before .before .before in
+    let a = start .args in
+    c .answer-with2 .ensures
+    ∙ plain-moves (a .t) (table-in-range (a .t) _ (start .good .0)) (askDefault (a .bearer)) (d .before .well-formed .ensures) (d .before .before .glance .ensures) (d .decide-plain .ensures)
+    (c .before .stepped .ensures)
 
 pub activate-default-spec : {M : Type 1} → statement M
-unfolding activateDefaultOf
 activate-default-spec =
     tie.close
     (tie.spec
-    (λ c κs. search needs)
-    (λ c κs. search needs)
-    (λ c. rw (sym (c .before .before .well-formed .ensures) ∙ not-true _ (c .before .if1 .taken)) (c .malformed-table .ensures))
-    (λ c κs. search needs)
-    (λ c κs. search needs)
-    (λ c. rw (fine (c .before .before .before), sym (c .before .before .is-available .ensures) ∙ not-true _ (c .before .if2 .taken)) (c .reject-with .ensures))
-    (λ c κs. search needs)
-    (λ c κs. search needs)
-    (λ c κs. search needs)
-    (λ c. rw (fine (c .before .before .before .before .before), sym (c .before .before .before .before .is-available .ensures) ∙ not-false _ (c .before .before .before .if2 .left)) (rw (c .before .opened-table .ensures, c .before .before .index-of .ensures) at (c .answer-with .ensures))))
+    (λ c κs. search needs) (λ c κs. search needs) (λ c κs. search needs) (λ c κs. search needs) (λ c κs. search needs) returns (λ c κs. search needs)
+    (λ c κs. search needs) returns-2)

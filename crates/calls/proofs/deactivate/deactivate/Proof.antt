@@ -1,21 +1,34 @@
--- `calls::deactivate::deactivate` meets its contract: a malformed table is refused; else the transaction is closed and the bearer dropped.
+-- `calls::deactivate::deactivate` meets its contract: what is decided of it from a glance is what Others says, where the table stands and where the bearers are rewritten.
 -- Assumes nothing.
-use mathlib.Core.Path.{sym, _∙_}
-use borrow.Author.Tests.{not-true, not-false}
-use Rattle.calls.specs.Others.{deactivateOf}
+use mathlib.Core.Path.{_∙_}
+use Rattle.table.proofs.Typed.{table-in-range}
+use Rattle.calls.specs.declared.plain.Plain.the-variants.{Deactivate as askDeactivate}
+use Rattle.calls.proofs.Plainly.{plain-stands, plain-moves}
 use borrow.Author.Needs.{needs}
 use Rattle.calls.proofs.deactivate.deactivate.Statement.{statement}
 use Rattle.calls.proofs.deactivate.deactivate.Tie as tie
 
+returns : tie.Need-returns
+returns c =
+    let d = c .before .before .before in
+    let start = d .before .before .before in
+    let a = start .args in
+    c .answer-with .ensures
+    ∙ plain-stands (a .t) (table-in-range (a .t) _ (start .good .0)) (askDeactivate (a .bearer) (a .transaction)) (d .before .well-formed .ensures) (d .before .before .glance .ensures) (d .decide-plain .ensures)
+    (c .before .before .stands .ensures) (c .before .if1 .taken)
+
+returns-2 : tie.Need-returns-2
+returns-2 c =
+    let d = c .before .before .before .before in
+    let start = d .before .before .before in
+    let a = start .args in
+    c .answer-with2 .ensures
+    ∙ plain-moves (a .t) (table-in-range (a .t) _ (start .good .0)) (askDeactivate (a .bearer) (a .transaction)) (d .before .well-formed .ensures) (d .before .before .glance .ensures) (d .decide-plain .ensures)
+    (c .before .stepped .ensures)
+
 pub deactivate-spec : {M : Type 1} → statement M
-unfolding deactivateOf
 deactivate-spec =
     tie.close
     (tie.spec
-    (λ c κs. search needs)
-    (λ c κs. search needs)
-    (λ c. rw (sym (c .before .before .well-formed .ensures) ∙ not-true _ (c .before .if1 .taken)) (c .malformed-table .ensures))
-    (λ c κs. search needs)
-    (λ c κs. search needs)
-    (λ c κs. search needs)
-    (λ c. rw (sym (c .before .before .before .before .well-formed .ensures) ∙ not-false _ (c .before .before .before .if1 .left)) (rw (c .before .drop-bearer .ensures, c .before .before .close .ensures) at (c .answer-with .ensures))))
+    (λ c κs. search needs) (λ c κs. search needs) (λ c κs. search needs) (λ c κs. search needs) (λ c κs. search needs) returns (λ c κs. search needs)
+    (λ c κs. search needs) returns-2)

@@ -1,28 +1,34 @@
--- `calls::deactivate::reject` meets its contract: a malformed table is refused, then a transaction that is not open; else the transaction is closed.
+-- `calls::deactivate::reject` meets its contract: what is decided of it from a glance is what Others says, where the table stands and where the bearers are rewritten.
 -- Assumes nothing.
-use mathlib.Core.Path.{_≡_, sym, _∙_}
-use mathlib.Core.Bool.{true}
-use borrow.Author.Tests.{not-true, not-false}
-use Rattle.table.specs.WellFormed.{wellFormed}
-use Rattle.calls.specs.Others.{rejectOf}
+use mathlib.Core.Path.{_∙_}
+use Rattle.table.proofs.Typed.{table-in-range}
+use Rattle.calls.specs.declared.plain.Plain.the-variants.{Reject as askReject}
+use Rattle.calls.proofs.Plainly.{plain-stands, plain-moves}
 use borrow.Author.Needs.{needs}
 use Rattle.calls.proofs.deactivate.reject.Statement.{statement}
 use Rattle.calls.proofs.deactivate.reject.Tie as tie
 
-fine : (c : tie.Else1) → wellFormed (c .before .before .args .t) ≡ true
-fine c = sym (c .before .well-formed .ensures) ∙ not-false _ (c .if1 .left)
+returns : tie.Need-returns
+returns c =
+    let d = c .before .before .before in
+    let start = d .before .before .before in
+    let a = start .args in
+    c .answer-with .ensures
+    ∙ plain-stands (a .t) (table-in-range (a .t) _ (start .good .0)) (askReject (a .transaction) (a .cause)) (d .before .well-formed .ensures) (d .before .before .glance .ensures) (d .decide-plain .ensures)
+    (c .before .before .stands .ensures) (c .before .if1 .taken)
+
+returns-2 : tie.Need-returns-2
+returns-2 c =
+    let d = c .before .before .before .before in
+    let start = d .before .before .before in
+    let a = start .args in
+    c .answer-with2 .ensures
+    ∙ plain-moves (a .t) (table-in-range (a .t) _ (start .good .0)) (askReject (a .transaction) (a .cause)) (d .before .well-formed .ensures) (d .before .before .glance .ensures) (d .decide-plain .ensures)
+    (c .before .stepped .ensures)
 
 pub reject-spec : {M : Type 1} → statement M
-unfolding rejectOf
 reject-spec =
     tie.close
     (tie.spec
-    (λ c κs. search needs)
-    (λ c κs. search needs)
-    (λ c. rw (sym (c .before .before .well-formed .ensures) ∙ not-true _ (c .before .if1 .taken)) (c .malformed-table .ensures))
-    (λ c κs. search needs)
-    (λ c κs. search needs)
-    (λ c. rw (fine (c .before .before .before), sym (c .before .before .is-open .ensures) ∙ not-true _ (c .before .if2 .taken)) (c .answer-with .ensures))
-    (λ c κs. search needs)
-    (λ c κs. search needs)
-    (λ c. rw (fine (c .before .before .before .before), sym (c .before .before .before .is-open .ensures) ∙ not-false _ (c .before .before .if2 .left)) (rw (c .before .after-reject .ensures) at (c .answer-with2 .ensures))))
+    (λ c κs. search needs) (λ c κs. search needs) (λ c κs. search needs) (λ c κs. search needs) (λ c κs. search needs) returns (λ c κs. search needs)
+    (λ c κs. search needs) returns-2)

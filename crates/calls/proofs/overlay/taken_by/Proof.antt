@@ -8,8 +8,8 @@ use Rattle.laws.proofs.Index.{done}
 use Rattle.laws.proofs.Typed.{each-at}
 use Rattle.filter.specs.Build.{emptyFilter}
 use Rattle.filter.specs.Sizes.{placeCount, precedenceCount}
+use Rattle.element.proofs.Typed.{row-in-range}
 use Rattle.calls.proofs.Conflicts.{takenBelow, taken-start, taken-more, taken-done}
-use Rattle.calls.proofs.Typed.{row-in-range}
 use borrow.Author.Needs.{needs}
 use Rattle.calls.proofs.overlay.taken_by.Statement.{statement}
 use Rattle.calls.proofs.overlay.taken_by.Tie as tie
