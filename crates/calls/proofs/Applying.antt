@@ -32,9 +32,10 @@ use Rattle.calls.specs.declared.decide.Decision.{Decision}
 use Rattle.calls.specs.declared.decide.Fate.{Fate}
 use Rattle.calls.specs.Reply.{followOf, outcome}
 use Rattle.calls.specs.Lay.{takes}
-use Rattle.calls.specs.inner.Overlay.{goneIn, overlaidIn, seenOf, seenAt}
+use Rattle.calls.specs.inner.Overlay.{goneIn, overlaidIn, glancedOf, lookedInto, touched, seenOf, seenAt}
 use Rattle.calls.specs.inner.Decide.{unseen, conflictSeen, seenIn, followsSeen, fateOf, fateAt, fatedView}
 use Rattle.calls.proofs.Rows.{bearerWith, row-kept-at, Stored, store-more, store-skip, store-still}
+use Rattle.calls.proofs.Overlays.{looked-seen, glanced-seen}
 
 seen-transaction : (t : Table) (k : ℕ) (seen : List Seen) (taken gone : List Bool) → seen ≡ tab (seenAt taken gone t k) bearerCount → (i : ℕ) → i < bearerCount
     → seenIn seen i .transaction ≡ transactionAt t i
@@ -60,6 +61,22 @@ module _ (f : ℕ → Seen) (seen₀ : List Seen) where
 
   pub see-done : (seen : List Seen) (i : ℕ) → length seen₀ ≡ bearerCount → bearerCount ≤ i → Seeing seen i → seen ≡ tab f bearerCount
   see-done seen i n l h = stored-done f seen₀ unseen i bearerCount seen n l (h .0) (h .1)
+
+-- .. and its turn: the row is looked into, or a glance at the bearer is enough
+module _ (t : Table) (k : ℕ) (taken gone : List Bool) (seen₀ seen : List Seen) (i : ℕ) (looks : Bool) (below : i < bearerCount)
+    (is : looks ≡ touched taken (eqb i k) (bearerAt t i)) (h : Seeing (seenAt taken gone t k) seen₀ seen i) where
+  -- the turn stores what is seen and ends with r
+  abbrev Sees : List Seen → Bool → Seen → Type 0
+  Sees r b there = (one : Seen) × (looks ≡ b) × (one ≡ there) × (r ≡ set seen i one)
+
+  pub seen-there : {A B : Type 0} (r : List Seen) → (A → Sees r true (lookedInto taken gone (eqb i k) (bearerAt t i))) → (B → Sees r false (glancedOf (bearerAt t i)))
+      → A ⊎ B → Seeing (seenAt taken gone t k) seen₀ r (i + 1)
+  seen-there r looked glanced =
+      ⊎-elim (λ a. let w = looked a in there (w .0) (w .2 ∙ looked-seen taken gone _ _ (sym is ∙ w .1)) (w .3))
+      (λ b. let w = glanced b in there (w .0) (w .2 ∙ glanced-seen taken gone _ _ (sym is ∙ w .1)) (w .3))
+    where
+      there : (one : Seen) → one ≡ seenAt taken gone t k i → r ≡ set seen i one → Seeing (seenAt taken gone t k) seen₀ r (i + 1)
+      there one e q = rw q (see-more (seenAt taken gone t k) seen₀ seen i one below e h)
 
 -- ---- A turn of the walk that stores them. `turns` tells what role a bearer gets, where it is the named one and is laid on: a modify leaves it, an activation opens it.
 module _ (t : Table) (k x : ℕ) (seen : List Seen) (d : Decision) (new : List Filter) (taken gone : List Bool) (turns : Bool → Role → Role) where

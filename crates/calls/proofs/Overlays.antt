@@ -7,18 +7,20 @@ use native.Mathlib.Omega.{arith}
 use lib.ListN.{length, getD, set}
 use Rattle.laws.specs.Says.{pick}
 use Rattle.laws.specs.Index.{anyBelow, tab}
-use Rattle.laws.proofs.Index.{any-start, any-more, any-same, done, stored, stored-start, stored-more, stored-rest, stored-skip, stored-done}
+use Rattle.laws.proofs.Index.{any-start, any-more, any-same, any-none, any-no, done, stored, stored-start, stored-more, stored-rest, stored-skip, stored-done}
 use Rattle.filter.specs.declared.component.Filter.{Filter}
 use Rattle.filter.specs.Coding.{held}
 use Rattle.filter.specs.Sizes.{placeCount}
 use Rattle.filter.specs.Build.{emptyFilter}
 use Rattle.table.specs.declared.bearer.Bearer.{Bearer}
-use Rattle.table.specs.Bearers.{inRow}
+use Rattle.table.specs.Bearers.{inRow, isIdle}
+use Rattle.calls.specs.declared.seen.Seen.{Seen}
 use Rattle.calls.specs.declared.seen.SeenRow.{SeenRow}
 use Rattle.calls.specs.Steps.{holdsIn, staysIn}
-use Rattle.calls.specs.inner.Overlay.{tookIn, remainsIn, lostIn, seenRow, overlaidIn}
+use Rattle.calls.specs.inner.Overlay.{tookIn, remainsIn, lostIn, seenRow, overlaidIn, glancedOf, lookedInto, takenIn, touched, seenOf}
 use Rattle.calls.proofs.Rows.{bearerWith}
 use Rattle.laws.proofs.Says.{never}
+use Rattle.laws.proofs.Tests.{both}
 use Rattle.calls.specs.inner.Walk.{so}
 use Rattle.calls.specs.Lay.{takes, conflictIn, loses, placedIn}
 use Rattle.calls.proofs.Conflicts.{conflict-old, placed-by}
@@ -172,3 +174,30 @@ unfolding seenRow loses
 row-loses new row create named taken gone et eg =
     any-same (lostIn taken gone named row) (conflictIn new create (so named true) row) placeCount
     (λ j l. lost-conflict new row create named taken gone j (et j l) (eg j l))
+
+-- ---- a bearer that is seen: its row is looked into where the bearer is touched, and a glance tells the same of any other
+-- nothing is lost in a row that has no new filter's precedence
+none-lost : (taken gone : List Bool) (named : Bool) (row : List Filter) → anyBelow (takenIn taken row) placeCount ≡ false → anyBelow (lostIn taken gone named row) placeCount ≡ false
+unfolding lostIn tookIn takenIn
+none-lost taken gone named row e =
+    any-same (lostIn taken gone named row) (λ j. false) placeCount (λ j l. rw (any-no (takenIn taken row) placeCount j l e)) ∙ any-none (λ j. false) placeCount (λ j. refl)
+
+abbrev seenBy : Bearer → Bool → Bool → Seen
+seenBy b loses empties = record { role = b .role; transaction = b .transaction; loses = loses; empties = empties }
+
+untouched-so : (b : Bearer) (idle named any lost empty : Bool) → not idle && (named || any) ≡ false → (any ≡ false → lost ≡ false)
+    → seenBy b false false ≡ seenBy b (not idle && lost) (not idle && (named && empty))
+untouched-so b true named any lost empty e h = refl
+untouched-so b false true any lost empty e h = never refl e
+untouched-so b false false any lost empty e h = ap (λ (lost : Bool). seenBy b lost false) (sym (h e))
+
+module _ (taken gone : List Bool) (named : Bool) (b : Bearer) where
+  pub looked-seen : touched taken named b ≡ true → lookedInto taken gone named b ≡ seenOf taken gone named b
+  unfolding touched lookedInto seenOf
+  looked-seen e = rw (both (not (isIdle (b .role))) (named || anyBelow (takenIn taken (b .row)) placeCount) e .0)
+
+  pub glanced-seen : touched taken named b ≡ false → glancedOf b ≡ seenOf taken gone named b
+  unfolding touched glancedOf seenOf seenRow
+  glanced-seen e =
+      untouched-so b (isIdle (b .role)) named _ _ (anyBelow (holdsIn (b .row)) placeCount && not (anyBelow (staysIn gone (b .row)) placeCount)) e
+      (none-lost taken gone named (b .row))

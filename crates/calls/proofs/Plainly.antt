@@ -35,6 +35,7 @@ use Rattle.calls.specs.declared.plain.Turn.{Turn}
 use Rattle.calls.specs.Reply.{causeNumber, answered}
 use Rattle.calls.specs.Steps.{opensAt, isOpen, ownerOf, closedView, closed, cutView, ofConnection, isAt, droppedBy, dropped}
 use Rattle.calls.specs.Others.{activateDefaultOf, deactivateOf, rejectOf, startOf}
+use Rattle.calls.specs.inner.Overlay.{glancedOf}
 use Rattle.calls.specs.inner.Decide.{unseen, seenIn, roleSeen, opensSeen}
 use Rattle.calls.specs.inner.Plain.{glanced, dropping, stayed, opening, starting, openSeen, ownerSeen, transactionSeen, decidedDefault, decidedReject, decidedStart, decidedPlain, unmoved, turnOf, turned, turnAt, steppedView}
 use Rattle.calls.proofs.Views.{views-same, role-built, transaction-built, filter-built}
@@ -109,26 +110,25 @@ module _ (t : Table) (ok : TableInRange t) where
 
   -- ---- What is seen, past the end too
   seen-at : (i : ℕ) → seenIn seen i ≡ glanced t i
-  unfolding glanced
+  unfolding glancedOf
   seen-at i = ⊎-elim past (λ q. let n = says-ne (says-le bearerCount i) q in tab-at (glanced t) bearerCount i unseen (omega arith)) (which (leb bearerCount i))
     where
       past : leb bearerCount i ≡ true → seenIn seen i ≡ glanced t i
       past q =
           let l = says-le bearerCount i .to q in
           List·getD-eq-default seen unseen (omega (arith, tab-length (glanced t) bearerCount))
-          ∙ sym (ap (λ (b : Bearer). record { role = b .role; transaction = b .transaction; loses = false; empties = false })
-          (List·getD-eq-default (t .bearers) noBearer (omega (arith, ok .bearers .count))))
+          ∙ sym (ap glancedOf (List·getD-eq-default (t .bearers) noBearer (omega (arith, ok .bearers .count))))
 
   role-seen : (bearer : ℕ) → roleSeen seen bearer ≡ roleOf t bearer
-  unfolding roleSeen glanced
+  unfolding roleSeen glancedOf
   role-seen bearer = ap (λ (b : Seen). pick (isIdentity bearer) (b .role) Idle) (seen-at (indexOf bearer))
 
   transaction-seen : (i : ℕ) → transactionSeen seen i ≡ transactionAt t i
-  unfolding transactionSeen glanced
+  unfolding transactionSeen glancedOf
   transaction-seen i = ap (λ (b : Seen). b .transaction) (seen-at i)
 
   opens-seen : (x : ℕ) → opensSeen seen x ≡ opensAt t x
-  unfolding opensSeen opensAt glanced
+  unfolding opensSeen opensAt glancedOf
   opens-seen x = fun-ext (λ i. ap (λ (b : Seen). eqb (b .transaction) x) (seen-at i))
 
   open-seen : (x : ℕ) → openSeen seen x ≡ isOpen t x

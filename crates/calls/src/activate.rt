@@ -18,6 +18,8 @@ use crate::plain::stepped;
 use crate::reply::Outcome;
 use crate::reply::Reply;
 use crate::reply::answer_with;
+use crate::seen::glance_at;
+use crate::seen::is_touched;
 use crate::seen::nothing_seen;
 use crate::seen::see;
 use element::read::read;
@@ -67,7 +69,12 @@ pub fn activate_dedicated(t: Table, bearer: u8, link: u8, transaction: u8, value
     let mut seen = [nothing_seen(); BEARERS];
     for i in 0..BEARERS {
         let b = s.bearers[i];
-        seen[i] = see(b, i == k, &taken[..], &gone[..]);
+        if is_touched(b, i == k, &taken[..]) {
+            let c = s.bearers[i];
+            seen[i] = see(c, i == k, &taken[..], &gone[..]);
+        } else {
+            seen[i] = glance_at(b);
+        }
     }
     let d = decide_dedicated(fine, seen, bearer, link, transaction, said, value);
     for i in 0..BEARERS {

@@ -13,6 +13,8 @@ use crate::overlay::overlaid;
 use crate::overlay::taken_by;
 use crate::reply::Outcome;
 use crate::reply::Reply;
+use crate::seen::glance_at;
+use crate::seen::is_touched;
 use crate::seen::nothing_seen;
 use crate::seen::see;
 use element::SetOperation;
@@ -60,7 +62,12 @@ pub fn modify(t: Table, bearer: u8, transaction: u8, value: &[u8]) -> Outcome
     let mut seen = [nothing_seen(); BEARERS];
     for i in 0..BEARERS {
         let b = s.bearers[i];
-        seen[i] = see(b, i == k, &taken[..], &gone[..]);
+        if is_touched(b, i == k, &taken[..]) {
+            let c = s.bearers[i];
+            seen[i] = see(c, i == k, &taken[..], &gone[..]);
+        } else {
+            seen[i] = glance_at(b);
+        }
     }
     let d = decide(fine, seen, bearer, transaction, said, value);
     for i in 0..BEARERS {

@@ -14,6 +14,7 @@ use crate::reply::Answer;
 use crate::reply::Cause;
 use crate::reply::Refusal;
 use crate::seen::Seen;
+use crate::seen::glance_at;
 use crate::seen::nothing_seen;
 use table::Bearer;
 use table::Role;
@@ -57,13 +58,7 @@ pub(crate) fn glance(t: Table) -> [Seen; BEARERS]
     let mut seen = [nothing_seen(); BEARERS];
     for i in 0..BEARERS {
         let b = t.bearers[i];
-        let role = b.role;
-        seen[i] = Seen {
-            role,
-            transaction: b.transaction,
-            loses: false,
-            empties: false,
-        };
+        seen[i] = glance_at(b);
     }
     seen
 }

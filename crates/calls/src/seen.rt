@@ -2,7 +2,8 @@
 ghost use mathlib.Core.Path.{_≡_};
 ghost use lib.ListN.{length};
 ghost use Rattle.filter.specs.Sizes.{placeCount, precedenceCount};
-ghost use Rattle.calls.specs.inner.Overlay.{seenRow, seenOf};
+ghost use Rattle.laws.specs.Index.{anyBelow};
+ghost use Rattle.calls.specs.inner.Overlay.{seenRow, takenIn, touched, glancedOf, lookedInto};
 ghost use Rattle.calls.specs.inner.Decide.{unseen};
 use crate::overlay::held_where;
 use filter::component::PLACES;
@@ -57,25 +58,49 @@ fn see_row(b: Bearer, named: bool, taken: &[bool], gone: &[bool]) -> SeenRow
     }
 }
 
-// The row of an idle bearer is not looked at.
-pub(crate) fn see(b: Bearer, named: bool, taken: &[bool], gone: &[bool]) -> Seen
-    requires { ⌜ (length (now taken) ≡ precedenceCount) × (length (now gone) ≡ placeCount) ⌝ }
-    ensures { λ r. ⌜ r ≡ seenOf (now (taken .entry)) (now (gone .entry)) named b ⌝ }
+fn any_taken(b: Bearer, taken: &[bool]) -> bool
+    requires { ⌜ length (now taken) ≡ precedenceCount ⌝ }
+    ensures { λ r. ⌜ r ≡ anyBelow (takenIn (now (taken .entry)) (b .row)) placeCount ⌝ }
+{
+    let mut any = false;
+    for j in 0..PLACES {
+        let f = b.row[j];
+        let p = f.precedence as usize;
+        any = any | taken[p];
+    }
+    any
+}
+
+// Most rows are not: a glance at the precedences asks for no copy of the bearer.
+pub(crate) fn is_touched(b: Bearer, named: bool, taken: &[bool]) -> bool
+    requires { ⌜ length (now taken) ≡ precedenceCount ⌝ }
+    ensures { λ r. ⌜ r ≡ touched (now (taken .entry)) named b ⌝ }
 {
     let role = b.role;
-    let transaction = b.transaction;
-    if is_idle(role) {
-        return Seen {
-            role,
-            transaction,
-            loses: false,
-            empties: false,
-        };
+    !is_idle(role) & (named | any_taken(b, taken))
+}
+
+pub(crate) fn glance_at(b: Bearer) -> Seen
+    ensures { λ r. ⌜ r ≡ glancedOf b ⌝ }
+{
+    let role = b.role;
+    Seen {
+        role,
+        transaction: b.transaction,
+        loses: false,
+        empties: false,
     }
+}
+
+pub(crate) fn see(b: Bearer, named: bool, taken: &[bool], gone: &[bool]) -> Seen
+    requires { ⌜ (length (now taken) ≡ precedenceCount) × (length (now gone) ≡ placeCount) ⌝ }
+    ensures { λ r. ⌜ r ≡ lookedInto (now (taken .entry)) (now (gone .entry)) named b ⌝ }
+{
+    let role = b.role;
     let row = see_row(b, named, taken, gone);
     Seen {
         role,
-        transaction,
+        transaction: b.transaction,
         loses: row.loses,
         empties: row.empties,
     }

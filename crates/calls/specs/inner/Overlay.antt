@@ -60,7 +60,28 @@ overlaidIn taken gone lay named new row j =
     pick ((lay && named) && held (inRow new j)) (inRow new j)
     (pick (((lay && named) && getD gone j false) || ((lay && tookIn taken gone named row j) && held (inRow row j))) emptyFilter (inRow row j))
 
--- ---- one bearer: an idle one's row is not looked at
+-- ---- one bearer: role and transaction, and nothing of the row
+unfoldable pub glancedOf : Bearer → Seen
+glancedOf b = record { role = b .role; transaction = b .transaction; loses = false; empties = false }
+
+-- .. and with the row
+unfoldable pub lookedInto : List Bool → List Bool → Bool → Bearer → Seen
+lookedInto taken gone named b =
+    record {
+      role = b .role;
+      transaction = b .transaction;
+      loses = seenRow taken gone named (b .row) .loses;
+      empties = seenRow taken gone named (b .row) .empties;
+    }
+
+unfoldable pub takenIn : List Bool → List Filter → ℕ → Bool
+takenIn taken row j = getD taken (inRow row j .precedence) false
+
+-- its row is looked into: it is active, and it is the named one or has a filter with a new filter's precedence
+unfoldable pub touched : List Bool → Bool → Bearer → Bool
+touched taken named b = not (isIdle (b .role)) && (named || anyBelow (takenIn taken (b .row)) placeCount)
+
+-- what is seen: an idle one's row is not looked into
 unfoldable pub seenOf : List Bool → List Bool → Bool → Bearer → Seen
 seenOf taken gone named b =
     record {

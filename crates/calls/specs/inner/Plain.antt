@@ -11,7 +11,7 @@ use Rattle.table.specs.declared.bearer.Role.{Role}
 use Rattle.table.specs.declared.bearer.Role.the-variants.{Idle, Default}
 use Rattle.table.specs.declared.bearer.Bearer.{Bearer}
 use Rattle.table.specs.declared.bearer.Table.{Table}
-use Rattle.table.specs.Bearers.{bearerCount, lastTransaction, indexOf, identityOf, roleAt, transactionAt, filterAt, View, isIdle, isDefault, isDedicated, inConnection}
+use Rattle.table.specs.Bearers.{bearerCount, lastTransaction, indexOf, identityOf, bearerAt, roleAt, transactionAt, filterAt, View, isIdle, isDefault, isDedicated, inConnection}
 use Rattle.calls.specs.declared.reply.Cause.the-variants.{BearerIdentity}
 use Rattle.calls.specs.declared.reply.Refusal.the-variants.{NotWellFormed, NotOpen, NoIdentity, AlreadyOpen, NoBearer, BearerBusy}
 use Rattle.calls.specs.declared.reply.Answer.{Answer}
@@ -22,11 +22,11 @@ use Rattle.calls.specs.declared.plain.Plain.the-variants.{Default as ask
 use Rattle.calls.specs.declared.plain.Step.{Step}
 use Rattle.calls.specs.declared.plain.Turn.{Turn}
 use Rattle.calls.specs.Reply.{causeNumber}
+use Rattle.calls.specs.inner.Overlay.{glancedOf}
 use Rattle.calls.specs.inner.Decide.{seenIn, roleSeen, opensSeen, availableSeen}
 
--- role and transaction, and nothing of the row
-unfoldable pub glanced : Table → ℕ → Seen
-glanced t i = record { role = roleAt t i; transaction = transactionAt t i; loses = false; empties = false }
+abbrev pub glanced : Table → ℕ → Seen
+glanced t i = glancedOf (bearerAt t i)
 
 -- ---- what a call may come to
 -- the transaction is closed, and the bearer with this role goes

@@ -11,7 +11,7 @@ use Rattle.table.proofs.Typed.{table-in-range}
 use Rattle.calls.specs.inner.Overlay.{seenAt}
 use Rattle.calls.specs.inner.Decide.{decidedDedicated, openedFated}
 use Rattle.calls.proofs.Rows.{Stored, store-start, store-done}
-use Rattle.calls.proofs.Applying.{marks-long, Seeing, see-start, see-more, see-done, stored-there, whole}
+use Rattle.calls.proofs.Applying.{marks-long, Seeing, see-start, see-done, seen-there, stored-there, whole}
 use Rattle.calls.proofs.Opening.{opened-means}
 use borrow.Author.Needs.{needs}
 use Rattle.calls.proofs.activate.activate_dedicated.Statement.{statement}
@@ -33,13 +33,20 @@ Inv-loop2 bearer link transaction value fine k new taken gone s₀ seen d i₀ s
 abbrev μ-loop2 : tie.MeasureT-loop2
 μ-loop2 bearer link transaction value fine k new taken gone s₀ seen d i₀ s i = bearerCount - i
 
+is-touched-requires : tie.Need-is-touched-requires Inv-loop μ-loop Inv-loop2 μ-loop2
+is-touched-requires c κs = let p = c .before .before .before .before .before in marks-long _ _ _ (p .before .taken-by .ensures) (p .gone-by .ensures) .0
+
 see-requires : tie.Need-see-requires Inv-loop μ-loop Inv-loop2 μ-loop2
-see-requires c κs = let p = c .before .before .before .before .before .before in marks-long _ _ _ (p .before .taken-by .ensures) (p .gone-by .ensures)
+see-requires c κs =
+    let p = c .before .before .before .before .before .before .before .before .before .before in
+    marks-long _ _ _ (p .before .taken-by .ensures) (p .gone-by .ensures)
 
 loop-again : tie.Need-loop-again Inv-loop μ-loop Inv-loop2 μ-loop2
 loop-again c =
     let l = c .before .before .before .before .before .loop in
-    see-more _ _ (l .seen) (l .i) _ (c .before .before .before .before .loop-test .taken) (c .see .ensures) (l .inv)
+    let start = c .before .before .before .before .before .before .before .before .before .before .before .before .before .before in
+    seen-there (start .args .t) _ _ _ _ _ _ _ (c .before .before .before .before .loop-test .taken) (c .before .is-touched .ensures) (l .inv) _
+    (λ w. (w .4 .result, w .0 .taken, w .4 .ensures, w .5)) (λ w. (w .1 .result, w .0 .left, w .1 .ensures, w .2)) (c .if1 .came)
 
 overlaid-requires : tie.Need-overlaid-requires Inv-loop μ-loop Inv-loop2 μ-loop2
 overlaid-requires c κs =
@@ -55,7 +62,7 @@ loop2-again c =
     let f = c .before .fate-of in
     stored-there _ _ _ _ _ _ _ _ (opens (start .args .link)) _ _ _ (c .before .before .before .loop2-test .taken) (f .ensures) (l .inv) _ (table-in-range (start .args .t) _ (start .good .0)) (λ r. refl)
     (see-done _ _ (first .seen) (first .i) refl (q .before .loop-test .left) (first .inv))
-    (λ w. (w .1 .result, w .0 .taken, w .1 .ensures, w .2)) (λ w. (w .7 .result, w .0 .left, rw (w .7 .ensures, w .5 .ensures), w .8)) (λ w. (w .0 .left, w .1 .left, w .2)) (c .if1 .came)
+    (λ w. (w .1 .result, w .0 .taken, w .1 .ensures, w .2)) (λ w. (w .7 .result, w .0 .left, rw (w .7 .ensures, w .5 .ensures), w .8)) (λ w. (w .0 .left, w .1 .left, w .2)) (c .if2 .came)
 
 returns : tie.Need-returns Inv-loop μ-loop Inv-loop2 μ-loop2
 returns c =
@@ -82,9 +89,11 @@ activate-dedicated-spec =
     (tie.spec
     Inv-loop μ-loop Inv-loop2 μ-loop2
     (λ c κs. search needs) (λ c κs. search needs) (λ c κs. search needs) (λ c κs. search needs) (λ c κs. search needs) (λ c κs. search needs)
-    (λ c. see-start _ _) (λ c. search needs) (λ c. search needs) (λ c. search needs) (λ c. search needs)
-    see-requires
+    (λ c. see-start _ _) (λ c. search needs) (λ c. search needs) (λ c. search needs)
+    is-touched-requires
     (λ c. search needs) (λ c. search needs) (λ c. search needs) (λ c. search needs)
+    see-requires
+    (λ c. search needs) (λ c. search needs) (λ c κs. search needs) (λ c. search needs) (λ c. search needs) (λ c. search needs) (λ c. search needs)
     loop-again
     (λ c κs. search needs) (λ c. store-start _ _) (λ c. search needs) (λ c. search needs) (λ c κs. search needs) (λ c κs. search needs)
     (λ c. search needs) (λ c. search needs) (λ c. search needs) (λ c. search needs) (λ c. search needs) (λ c. search needs)
