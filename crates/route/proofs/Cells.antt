@@ -1,10 +1,11 @@
 -- The list while it is made: a number for each entry, stored at its filter's precedence.
 use mathlib.Core.Path.{_≡_, refl, sym, _∙_, ap, ap₂}
-use mathlib.Core.Bool.{true, false}
+use mathlib.Core.Bool.{Bool, true, false}
 use mathlib.Core.List.{List, map}
-use Prim.Native.Nat.{ℕ, _+_, _*_, _/_, _%_, _<_, _≤_}
+use Prim.Native.Nat.{ℕ, _+_, _/_, _%_, _<_, _≤_}
 use native.Mathlib.Omega.{arith}
 use lib.ListN.{length, set, getD, length-set, length-map, replicate, length-replicate, List·getD-map}
+use Rattle.laws.specs.Says.{pick}
 use Rattle.laws.specs.Index.{walk, tab}
 use Rattle.laws.proofs.Says.{picked}
 use Rattle.laws.proofs.Index.{done, map-set, tab-is, walk-long, walk-more, walk-start}
@@ -14,18 +15,18 @@ use Rattle.table.specs.declared.bearer.Table.{Table}
 use Rattle.table.specs.Bearers.{bearerCount, identityOf, bearerAt, inRow, roleAt, inConnection}
 use Rattle.route.specs.declared.list.Entry.{Entry}
 use Rattle.route.specs.Lists.{isUplink, entryOf, nothing, entriesOf}
-use Rattle.route.specs.inner.Walk.{emptyList, putFilter, putRow, putBearer, walked, decoded, entriesIn}
+use Rattle.route.specs.inner.Walk.{emptyList, putFilter, putRow, putBearer, walked, cellOf, decoded, entriesIn}
 use Rattle.route.proofs.Listing.{walked-list}
 
 -- ---- entries as numbers
-pub cell-put : (cells : List ℕ) (p bearer j : ℕ) → j < placeCount → entriesIn (set cells p (bearer * 256 + j)) ≡ set (entriesIn cells) p (entryOf bearer j)
+pub cell-put : (cells : List ℕ) (p bearer j : ℕ) → j < placeCount → entriesIn (set cells p (cellOf bearer j)) ≡ set (entriesIn cells) p (entryOf bearer j)
 unfolding entriesIn decoded
 cell-put cells p bearer j l =
-    map-set decoded cells p (bearer * 256 + j)
+    map-set decoded cells p (cellOf bearer j)
     ∙ ap (set (map decoded cells) p)
-    (ap₂ entryOf (let q : (bearer * 256 + j) / 256 ≡ bearer = omega arith in q) (let r : (bearer * 256 + j) % 256 ≡ j = omega arith in r))
+    (ap₂ entryOf (let q : cellOf bearer j / 16 ≡ bearer = omega arith in q) (let r : cellOf bearer j % 16 ≡ j = omega arith in r))
 
-entries-long : (cells : List ℕ) → length (entriesIn cells) ≡ length cells
+pub entries-long : (cells : List ℕ) → length (entriesIn cells) ≡ length cells
 unfolding entriesIn
 entries-long cells = length-map cells decoded
 
@@ -35,15 +36,18 @@ unfolding entriesIn decoded
 cells-listed cells long = sym (tab-is nothing (λ p. decoded (getD cells p 0)) (map decoded cells) precedenceCount (length-map cells decoded ∙ long) (λ p l. List·getD-map decoded cells p 0))
 
 -- ---- walks that store keep the length
+pub kept : {A : Type 0} (b : Bool) (ys xs : List A) → length ys ≡ length xs → length (pick b ys xs) ≡ length xs
+kept {A} b ys xs e = picked (λ (zs : List A). length zs ≡ length xs) b ys xs e refl
+
 filter-long : (row : List Filter) (bearer : ℕ) (es : List Entry) (j : ℕ) → length (putFilter row bearer es j) ≡ length es
 unfolding putFilter
-filter-long row bearer es j = picked (λ (fs : List Entry). length fs ≡ length es) (isUplink (inRow row j)) _ es (length-set es (inRow row j .precedence) (entryOf bearer j)) refl
+filter-long row bearer es j = kept (isUplink (inRow row j)) _ es (length-set es (inRow row j .precedence) (entryOf bearer j))
 
 bearer-long : (t : Table) (default : ℕ) (es : List Entry) (i : ℕ) → length (putBearer t default es i) ≡ length es
 unfolding putBearer putRow
 bearer-long t default es i =
-    picked (λ (fs : List Entry). length fs ≡ length es) (inConnection default i (roleAt t i)) _ es
-    (walk-long (putFilter (bearerAt t i .row) (identityOf i)) (filter-long (bearerAt t i .row) (identityOf i)) es placeCount) refl
+    kept (inConnection default i (roleAt t i)) _ es
+    (walk-long (putFilter (bearerAt t i .row) (identityOf i)) (filter-long (bearerAt t i .row) (identityOf i)) es placeCount)
 
 -- ---- the filters of a row
 module _ (row : List Filter) (bearer : ℕ) (before : List ℕ) where

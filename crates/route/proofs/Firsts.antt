@@ -1,11 +1,11 @@
 -- The first entry with a test, position by position.
-use mathlib.Core.Path.{_≡_, refl}
+use mathlib.Core.Path.{_≡_, refl, _∙_}
 use mathlib.Core.Bool.{Bool, true, false}
 use mathlib.Core.List.{List, [], _∷_}
-use Prim.Native.Nat.{ℕ, suc, _+_, _<_, _≤_}
+use Prim.Native.Nat.{ℕ, suc, _+_, _/_, _%_, _<_, _≤_}
 use native.Mathlib.Numerals.{add-one}
 use native.Mathlib.Omega.{arith}
-use lib.ListN.{length, getD, drop, drop-of-length-le}
+use lib.ListN.{length, getD, drop, drop-of-length-le, List·getD-map}
 use lib.Seq.{drop-cons}
 use Rattle.laws.proofs.Says.{says-eq, says-no}
 use Rattle.filter.specs.declared.packet.Header.{Header}
@@ -17,21 +17,38 @@ use Rattle.route.specs.declared.answer.Route.the-variants.{Bearer}
 use Rattle.route.specs.declared.list.Entry.{Entry}
 use Rattle.route.specs.Lists.{entryOf, nothing}
 use Rattle.route.specs.Routes.{filterOf, entryFits, firstFit}
-use Rattle.route.specs.inner.Notes.{firstBy}
+use Rattle.route.specs.inner.Walk.{cellOf, decoded, entriesIn}
+use Rattle.route.specs.inner.Notes.{entryNoted, firstBy}
+use Rattle.route.proofs.Cells.{entries-long}
 
-module _ (test : Entry → Bool) (otherwise : Route) (es : List Entry) (p : ℕ) where
-  -- what is left from position p on, as the first of it goes on
-  pub fit-hit : p < length es → test (getD es p nothing) ≡ true → firstBy test otherwise (drop p es) ≡ Bearer (getD es p nothing .bearer)
-  unfolding firstBy
-  fit-hit l e = rw (drop-cons es p nothing l, e)
+-- what is left from position p on of a list of numbers, as the first of it goes on
+module _ (notes : List Bool) (otherwise : Route) (cells : List ℕ) (p : ℕ) where
+  cell-noted : entryNoted notes (decoded (getD cells p 0)) ≡ getD notes (getD cells p 0) false
+  unfolding entryNoted decoded
+  cell-noted =
+      let cell = getD cells p 0 in
+      let back : cellOf (cell / 16) (cell % 16) ≡ cell = omega arith in
+      rw back
 
-  pub fit-miss : p < length es → test (getD es p nothing) ≡ false → firstBy test otherwise (drop p es) ≡ firstBy test otherwise (drop (p + 1) es)
-  unfolding firstBy
-  fit-miss l e = rw (drop-cons es p nothing l, e, add-one)
+  first-of : p < length cells → drop p (entriesIn cells) ≡ decoded (getD cells p 0) ∷ drop (p + 1) (entriesIn cells)
+  unfolding entriesIn decoded
+  first-of l = drop-cons (entriesIn cells) p nothing (omega (arith, entries-long cells)) ∙ rw (List·getD-map decoded cells p 0, add-one)
 
-  pub fit-none : length es ≤ p → firstBy test otherwise (drop p es) ≡ otherwise
+  pub cell-hit : p < length cells → getD notes (getD cells p 0) false ≡ true
+      → firstBy (entryNoted notes) otherwise (drop p (entriesIn cells)) ≡ Bearer (decoded (getD cells p 0) .bearer)
   unfolding firstBy
-  fit-none l = rw (drop-of-length-le es l)
+  cell-hit l e = rw (first-of l, cell-noted ∙ e)
+
+  pub cell-miss : p < length cells → getD notes (getD cells p 0) false ≡ false
+      → firstBy (entryNoted notes) otherwise (drop p (entriesIn cells)) ≡ firstBy (entryNoted notes) otherwise (drop (p + 1) (entriesIn cells))
+  unfolding firstBy
+  cell-miss l e = rw (first-of l, cell-noted ∙ e)
+
+  pub cell-none : length cells ≤ p → firstBy (entryNoted notes) otherwise (drop p (entriesIn cells)) ≡ otherwise
+  unfolding firstBy
+  cell-none l =
+      let past : length (entriesIn cells) ≤ p = omega (arith, entries-long cells) in
+      rw (drop-of-length-le (entriesIn cells) past)
 
 -- a test that tells of each entry whether it fits finds the first that fits
 pub first-same : (t : Table) (h : Header) (test : Entry → Bool) (otherwise : Route) (es : List Entry)

@@ -1,6 +1,5 @@
-pub mod Typed
-pub mod Firsts
 pub mod Listing
 pub mod Cells
+pub mod Firsts
 pub mod Noting
 pub mod Theorems

@@ -1,18 +1,15 @@
 -- What the walk notes: over the connection's own list, the first position by the notes is the first that fits.
-use mathlib.Core.Path.{_≡_, refl, sym, _∙_, ap, ap₂, subst}
-use mathlib.Core.Bool.{Bool, true, false, not, _&&_, _||_, and-assoc, or-false}
+use mathlib.Core.Path.{_≡_, refl, sym, _∙_, ap, subst}
+use mathlib.Core.Bool.{Bool, true, false, _&&_, _||_, and-assoc, or-false}
 use mathlib.Core.List.{List}
 use mathlib.Core.Logic.{⊎-elim}
-use Prim.Native.Nat.{ℕ, _+_, _<_, _≤_}
+use Prim.Native.Nat.{ℕ, zero, suc, _+_, _/_, _%_, _<_, _≤_}
 use native.Mathlib.Omega.{arith}
-use lib.Dec.{eqb}
-use lib.ListN.{length, getD, set, replicate, length-replicate, getD-replicate}
-use borrow.Author.Tests.{lt-ltb, eq-eqb, eqb-true}
+use lib.ListN.{length, getD, set, length-set, replicate, length-replicate, getD-replicate}
+use borrow.Author.Tests.{eq-eqb, eqb-true}
 use Rattle.laws.specs.Says.{pick}
 use Rattle.laws.specs.Index.{anyBelow, walk}
-use Rattle.laws.proofs.Bits.{off, bit-set}
-use Rattle.laws.proofs.Index.{any-start, any-more, walk-start, walk-more, done, tab-at, tab-length, stored, stored-start, stored-more, stored-skip, stored-done}
-use Rattle.laws.proofs.Lasts.{Last, NoLast, last-cases, last-walk}
+use Rattle.laws.proofs.Index.{any-start, any-more, walk-start, walk-more, walk-keeps, walk-long, done, tab-at, stored, stored-start, stored-more, stored-skip, stored-done}
 use Rattle.laws.proofs.Says.{says-it, says-and, says-any, says-so, says-same, says-no}
 use Rattle.laws.proofs.Tests.{both, or-right}
 use Rattle.filter.specs.declared.component.Filter.{Filter}
@@ -26,88 +23,68 @@ use Rattle.table.proofs.Meaning.{default-says, range-says}
 use Rattle.route.specs.declared.answer.Route.{Route}
 use Rattle.route.specs.declared.answer.Route.the-variants.{Bearer, Discard}
 use Rattle.route.specs.declared.list.Entry.{Entry}
-use Rattle.route.specs.declared.list.OrderedList.{OrderedList}
-use Rattle.route.specs.declared.notes.Notes.{Notes}
-use Rattle.route.specs.declared.notes.RowNotes.{RowNotes}
 use Rattle.route.specs.Lists.{isUplink, entryOf, nothing, entriesOf, listOf}
 use Rattle.route.specs.Positions.{Uplink}
 use Rattle.route.specs.Routes.{entryFits, firstFit, uplinkAt, hasUplink, otherwiseOf, routeOn}
-use Rattle.route.specs.inner.Walk.{entriesIn, putRow}
-use Rattle.route.specs.inner.Notes.{withBit, fitsAt, noteAt, fittingIn, rowNotes, fittingAt, fittingOf, notesOf, entryNoted, firstBy}
+use Rattle.route.specs.inner.Walk.{cellOf, cellCount, entriesIn, putRow}
+use Rattle.route.specs.inner.Notes.{fitsAt, noteAt, notesOf, noneNoted, noteFilter, noteRow, noteBearer, entryNoted, firstBy}
 use Rattle.route.proofs.Listing.{entries-length, list-stands}
 use Rattle.route.proofs.Firsts.{entry-fits, nothing-fits, first-same}
-use Rattle.route.proofs.Cells.{RowPut, row-start, row-put, row-skip, BearersPut, bearers-start, bearer-put, bearer-skip, bearers-done}
+use Rattle.route.proofs.Cells.{kept, RowPut, row-start, row-put, row-skip, BearersPut, bearers-start, bearer-put, bearer-skip, bearers-done}
+
+-- ---- walks that note keep the length
+filter-kept : (h : Header) (row : List Filter) (bearer : ℕ) (notes : List Bool) (j : ℕ) → length (noteFilter h row bearer notes j) ≡ length notes
+unfolding noteFilter
+filter-kept h row bearer notes j = kept (isUplink (inRow row j)) _ notes (length-set notes (cellOf bearer j) (fits (inRow row j) h))
+
+bearer-kept : (t : Table) (default : ℕ) (h : Header) (notes : List Bool) (i : ℕ) → length (noteBearer t default h notes i) ≡ length notes
+unfolding noteBearer noteRow
+bearer-kept t default h notes i =
+    kept (inConnection default i (roleAt t i)) _ notes
+    (walk-long (noteFilter h (bearerAt t i .row) (identityOf i)) (filter-kept h (bearerAt t i .row) (identityOf i)) notes placeCount)
 
 -- ---- the notes of a row
-abbrev the-row : Bool → ℕ → RowNotes
-the-row uplink fitting = record { uplink = uplink; fitting = fitting }
-
-module _ (h : Header) (row : List Filter) where
-  bit-noted : (j k notes : ℕ) → off k (noteAt h row notes j) ≡ pick (fitsAt h row j && eqb j k) false (off k notes)
-  unfolding noteAt withBit
-  bit-noted j k notes = go (fitsAt h row j)
-    where
-      one : (b o : Bool) → not b && o ≡ pick b false o
-      one true o = refl
-      one false o = refl
-
-      go : (b : Bool) → off k (withBit notes j b) ≡ pick (b && eqb j k) false (off k notes)
-      go true = bit-set j k notes ∙ one (eqb j k) (off k notes)
-      go false = refl
-
-  -- the note of place k, made at place j
-  unfoldable here : ℕ → ℕ → Bool
-  here k j = fitsAt h row j && eqb j k
-
-  -- bit k tells whether the filter in place k is for the uplink and fits
-  row-noted : (k : ℕ) → k < placeCount → off k (fittingIn h row) ≡ not (fitsAt h row k)
-  unfolding here
-  row-noted k l =
-      last-walk (here k) (λ j. false) (λ s. Unit {0}) (off k) (noteAt h row) 0 placeCount tt (λ j s _. (tt, bit-noted j k s)) .1
-      ∙ ⊎-elim some none (last-cases (here k) (λ j. false) (off k 0) placeCount)
-    where
-      some : {r : Bool} → Last (here k) (λ j. false) placeCount r → r ≡ not (fitsAt h row k)
-      some s =
-          let (f, e) = both (fitsAt h row (s .at)) (eqb (s .at) k) (s .holds) in
-          s .is ∙ sym (ap (λ (j : ℕ). not (fitsAt h row j)) (sym (eqb-true (s .at) k e)) ∙ ap not f)
-
-      none : {r : Bool} → NoLast (here k) (λ j. false) (off k 0) placeCount r → r ≡ not (fitsAt h row k)
-      none n = n .is ∙ ap not (sym (says-no (says-it (fitsAt h row k)) (λ f. n .none k l (rw (f, eq-eqb k k refl)))))
-
-  -- the places below j are noted, and put
-  pub record RowNoted (bearer : ℕ) (before : List ℕ) (j : ℕ) (cells : List ℕ) (uplink : Bool) (fitting : ℕ) : Type 0 where
+module _ (h : Header) (row : List Filter) (bearer : ℕ) (before : List ℕ) (earlier : List Bool) where
+  -- the places below j are put, and noted
+  pub record RowNoted (j : ℕ) (cells : List ℕ) (fitting : List Bool) (uplink : Bool) : Type 0 where
     pub puts : RowPut row bearer before j cells
+    pub notes : fitting ≡ walk (noteFilter h row bearer) earlier j
     pub ups : uplink ≡ anyBelow (uplinkAt row) j
-    pub notes : fitting ≡ walk (noteAt h row) 0 j
 
-  module _ (bearer : ℕ) (before : List ℕ) where
-    pub row-noted-start : RowNoted bearer before 0 before false 0
-    row-noted-start = record { puts = row-start row bearer before; ups = any-start (uplinkAt row); notes = walk-start (noteAt h row) 0 }
+  pub row-noted-start : RowNoted 0 before earlier false
+  row-noted-start = record { puts = row-start row bearer before; notes = walk-start (noteFilter h row bearer) earlier; ups = any-start (uplinkAt row) }
 
-    module _ (j : ℕ) {cells : List ℕ} {uplink : Bool} {fitting : ℕ} (so : RowNoted bearer before j cells uplink fitting) where
-      pub row-note : {after : List ℕ} {noted : ℕ} {fit : Bool} → isUplink (inRow row j) ≡ true
-          → entriesIn after ≡ set (entriesIn cells) (inRow row j .precedence) (entryOf bearer j) → fit ≡ fits (inRow row j) h → noted ≡ withBit fitting j fit
-          → RowNoted bearer before (j + 1) after true noted
-      unfolding uplinkAt noteAt fitsAt
-      row-note up e f n =
-          record {
-            puts = row-put row bearer before j (so .puts) up e;
-            ups = any-more (uplinkAt row) j uplink true (sym (or-right uplink _ up)) (so .ups);
-            notes = walk-more (noteAt h row) 0 j fitting _ (n ∙ rw (up, f)) (so .notes);
-          }
+  module _ (j : ℕ) {cells : List ℕ} {fitting : List Bool} {uplink : Bool} (so : RowNoted j cells fitting uplink) where
+    pub row-note : {after : List ℕ} {fit : Bool} {cell : ℕ} → isUplink (inRow row j) ≡ true → fit ≡ fits (inRow row j) h → cell ≡ cellOf bearer j
+        → entriesIn after ≡ set (entriesIn cells) (inRow row j .precedence) (entryOf bearer j) → RowNoted (j + 1) after (set fitting cell fit) true
+    unfolding uplinkAt noteFilter
+    row-note up f n e =
+        record {
+          puts = row-put row bearer before j (so .puts) up e;
+          notes = walk-more (noteFilter h row bearer) earlier j fitting _ (rw (up, f, n)) (so .notes);
+          ups = any-more (uplinkAt row) j uplink true (sym (or-right uplink _ up)) (so .ups);
+        }
 
-      pub row-unnoted : isUplink (inRow row j) ≡ false → RowNoted bearer before (j + 1) cells uplink fitting
-      unfolding uplinkAt noteAt fitsAt withBit
-      row-unnoted down =
-          record {
-            puts = row-skip row bearer before j (so .puts) down;
-            ups = any-more (uplinkAt row) j uplink uplink (rw down (sym (or-false uplink))) (so .ups);
-            notes = walk-more (noteAt h row) 0 j fitting fitting (rw down) (so .notes);
-          }
+    pub row-unnoted : isUplink (inRow row j) ≡ false → RowNoted (j + 1) cells fitting uplink
+    unfolding uplinkAt noteFilter
+    row-unnoted down =
+        record {
+          puts = row-skip row bearer before j (so .puts) down;
+          notes = walk-more (noteFilter h row bearer) earlier j fitting fitting (rw down) (so .notes);
+          ups = any-more (uplinkAt row) j uplink uplink (rw down (sym (or-false uplink))) (so .ups);
+        }
 
-      pub row-all-noted : placeCount ≤ j → j ≤ placeCount → the-row uplink fitting ≡ rowNotes h row
+    pub row-notes-long : length fitting ≡ length earlier
+    row-notes-long = ap length (so .notes) ∙ walk-long (noteFilter h row bearer) (filter-kept h row bearer) earlier j
+
+    module _ (l : placeCount ≤ j) (m : j ≤ placeCount) where
+      pub row-ups : uplink ≡ hasUplink row
       unfolding hasUplink
-      row-all-noted l m = ap₂ the-row (done (anyBelow (uplinkAt row)) j placeCount uplink l m (so .ups)) (done (walk (noteAt h row) 0) j placeCount fitting l m (so .notes))
+      row-ups = done (anyBelow (uplinkAt row)) j placeCount uplink l m (so .ups)
+
+      pub row-notes : fitting ≡ noteRow h row bearer earlier
+      unfolding noteRow
+      row-notes = done (walk (noteFilter h row bearer) earlier) j placeCount fitting l m (so .notes)
 
 -- ---- the default's own bearer
 module _ (t : Table) (default : ℕ) where
@@ -166,106 +143,165 @@ module _ (t : Table) (default : ℕ) where
       ∙ ap (λ (b : Bool). b && hasUplink (bearerAt t (indexOf default) .row)) own-found
 
 -- ---- the bearers of a connection
-abbrev the-notes : Bool → Bool → List ℕ → List Entry → Notes
-the-notes found uplink fitting entries = record { found = found; uplink = uplink; fitting = fitting; list = record { entries = entries } }
-
 module _ (t : Table) (default : ℕ) (h : Header) where
-  -- those below i are noted, and put
-  pub record Noted (i : ℕ) (cells fitting : List ℕ) (found uplink : Bool) : Type 0 where
+  -- the notes by number: what stands at that of place j of the bearer at index i
+  at-cell : (i j : ℕ) → i < bearerCount → j < placeCount → noteAt t default h (cellOf (identityOf i) j) ≡ fitsAt t default h i j
+  unfolding noteAt
+  at-cell i j l m =
+      let q : cellOf (identityOf i) j / 16 ≡ identityOf i = omega arith in
+      let r : cellOf (identityOf i) j % 16 ≡ j = omega arith in
+      let back : indexOf (identityOf i) ≡ i = omega arith in
+      let in-range : isIdentity (identityOf i) ≡ true = range-says (identityOf i) .from (omega arith, omega arith) in
+      rw (q, r, in-range, back)
+
+  abbrev Sofar : List Bool → ℕ → Type 0
+  Sofar notes cell = notes ≡ stored (noteAt t default h) noneNoted cell
+
+  -- nothing is to be noted at these numbers
+  pass : (n cell : ℕ) (notes : List Bool) → cell + n ≤ cellCount → ((k : ℕ) → k < n → noteAt t default h (cell + k) ≡ false) → Sofar notes cell → Sofar notes (cell + n)
+  unfolding noneNoted
+  pass zero cell notes l none so = subst (Sofar notes) (let e : cell ≡ cell + 0 = omega arith in e) so
+  pass (suc n) cell notes l none so =
+      let here = pass n cell notes (omega arith) (λ k m. none k (omega arith)) so in
+      subst (Sofar notes) (let e : cell + n + 1 ≡ cell + suc n = omega arith in e)
+      (stored-skip (noteAt t default h) noneNoted false (cell + n) notes (getD-replicate cellCount (cell + n) false false (omega arith) ∙ sym (none n (omega arith))) here)
+
+  -- below the first identity's
+  first-pass : Sofar noneNoted (cellOf (identityOf 0) 0)
+  unfolding noteAt
+  first-pass =
+      pass 80 0 noneNoted (omega arith)
+      (λ k m. let low : (0 + k) / 16 < 5 = omega arith in rw (says-no (range-says ((0 + k) / 16)) (λ r. let high = r .0 in omega arith)))
+      (stored-start (noteAt t default h) noneNoted)
+
+  module _ (i : ℕ) (l : i < bearerCount) where
+    skip-place : (j : ℕ) (notes : List Bool) → j < placeCount → fitsAt t default h i j ≡ false → Sofar notes (cellOf (identityOf i) j) → Sofar notes (cellOf (identityOf i) (suc j))
+    skip-place j notes m none so =
+        subst (Sofar notes) (let e : cellOf (identityOf i) j + 1 ≡ cellOf (identityOf i) (suc j) = omega arith in e)
+        (pass 1 (cellOf (identityOf i) j) notes (omega arith)
+        (λ k z. let e : cellOf (identityOf i) j + k ≡ cellOf (identityOf i) j = omega arith in rw e (at-cell i j l m ∙ none)) so)
+
+    place-turn : inConnection default i (roleAt t i) ≡ true → (j : ℕ) (notes : List Bool) → j < placeCount → Sofar notes (cellOf (identityOf i) j)
+        → Sofar (noteFilter h (bearerAt t i .row) (identityOf i) notes j) (cellOf (identityOf i) (suc j))
+    unfolding noteFilter fitsAt
+    place-turn of j notes m so = go (isUplink (filterAt t i j)) refl
+      where
+        go : (up : Bool) → isUplink (filterAt t i j) ≡ up
+            → Sofar (pick up (set notes (cellOf (identityOf i) j) (fits (filterAt t i j) h)) notes) (cellOf (identityOf i) (suc j))
+        go true up =
+            subst (Sofar _) (let e : cellOf (identityOf i) j + 1 ≡ cellOf (identityOf i) (suc j) = omega arith in e)
+            (stored-more (noteAt t default h) noneNoted (cellOf (identityOf i) j) notes _ (sym (at-cell i j l m ∙ rw (of, up))) so)
+        go false down = skip-place j notes m (rw (of, down)) so
+
+    turn : (notes : List Bool) → Sofar notes (cellOf (identityOf i) 0) → Sofar (noteBearer t default h notes i) (cellOf (identityOf (suc i)) 0)
+    unfolding noteBearer noteRow fitsAt
+    turn notes so =
+        subst (Sofar _) (let e : cellOf (identityOf i) placeCount ≡ cellOf (identityOf (suc i)) 0 = omega arith in e) (go (inConnection default i (roleAt t i)) refl)
+      where
+        go : (of : Bool) → inConnection default i (roleAt t i) ≡ of → Sofar (pick of (noteRow h (bearerAt t i .row) (identityOf i) notes) notes) (cellOf (identityOf i) placeCount)
+        go true of =
+            walk-keeps (noteFilter h (bearerAt t i .row) (identityOf i)) notes (λ (j : ℕ) (s : List Bool). Sofar s (cellOf (identityOf i) j)) placeCount so
+            (λ j s m here. place-turn of j s m here)
+        go false other =
+            subst (Sofar notes) (let e : cellOf (identityOf i) 0 + placeCount ≡ cellOf (identityOf i) placeCount = omega arith in e)
+            (pass placeCount (cellOf (identityOf i) 0) notes (omega arith)
+            (λ k m. let e : cellOf (identityOf i) 0 + k ≡ cellOf (identityOf i) k = omega arith in rw e (at-cell i k l m ∙ rw other)) so)
+
+  pub walked-notes : walk (noteBearer t default h) noneNoted bearerCount ≡ notesOf t default h
+  unfolding notesOf noneNoted
+  walked-notes =
+      stored-done (noteAt t default h) noneNoted false 256 cellCount _ (length-replicate {A = Bool} cellCount false) (omega arith) (omega arith)
+      (walk-keeps (noteBearer t default h) noneNoted (λ (i : ℕ) (s : List Bool). Sofar s (cellOf (identityOf i) 0)) bearerCount first-pass (λ i s l here. turn i l s here))
+
+  -- those below i are put, and noted
+  pub record Noted (i : ℕ) (cells : List ℕ) (fitting : List Bool) (found uplink : Bool) : Type 0 where
     pub puts : BearersPut t default i cells
-    pub notes : fitting ≡ stored (fittingAt t default h) (replicate bearerCount 0) i
+    pub notes : fitting ≡ walk (noteBearer t default h) noneNoted i
     pub finds : found ≡ anyBelow (ownAt t default) i
     pub ups : uplink ≡ anyBelow (ownUp t default) i
 
-  pub noted-start : Noted 0 (replicate precedenceCount 0) (replicate bearerCount 0) false false
+  pub noted-start : Noted 0 (replicate precedenceCount 0) (replicate cellCount false) false false
+  unfolding noneNoted
   noted-start =
       record {
         puts = bearers-start t default;
-        notes = stored-start (fittingAt t default h) (replicate bearerCount 0);
+        notes = walk-start (noteBearer t default h) noneNoted;
         finds = any-start (ownAt t default);
         ups = any-start (ownUp t default);
       }
 
-  module _ (i : ℕ) {cells fitting : List ℕ} {found uplink : Bool} (so : Noted i cells fitting found uplink) where
-    pub noted-more : {after : List ℕ} {notes : RowNotes} {own : Bool} → inConnection default i (roleAt t i) ≡ true
-        → (notes ≡ rowNotes h (bearerAt t i .row)) × (entriesIn after ≡ putRow (bearerAt t i .row) (identityOf i) (entriesIn cells)) → own ≡ isDefault (roleAt t i)
-        → Noted (i + 1) after (set fitting i (notes .fitting)) (found || own) (uplink || (own && notes .uplink))
-    unfolding fittingAt ownAt ownUp
-    noted-more of r o =
+  module _ (i : ℕ) {cells : List ℕ} {fitting : List Bool} {found uplink : Bool} (so : Noted i cells fitting found uplink) where
+    pub noted-more : {after : List ℕ} {notes : List Bool} {up own : Bool} → inConnection default i (roleAt t i) ≡ true
+        → up ≡ hasUplink (bearerAt t i .row) → entriesIn after ≡ putRow (bearerAt t i .row) (identityOf i) (entriesIn cells)
+        → notes ≡ noteRow h (bearerAt t i .row) (identityOf i) fitting → own ≡ isDefault (roleAt t i)
+        → Noted (i + 1) after notes (found || own) (uplink || (own && up))
+    unfolding noteBearer ownAt ownUp
+    noted-more of u e n o =
         record {
-          puts = bearer-put t default i (so .puts) of (r .1);
-          notes = stored-more (fittingAt t default h) (replicate bearerCount 0) i fitting _ (rw (of, r .0)) (so .notes);
+          puts = bearer-put t default i (so .puts) of e;
+          notes = walk-more (noteBearer t default h) noneNoted i fitting _ (rw of n) (so .notes);
           finds = any-more (ownAt t default) i found _ (rw (of, o)) (so .finds);
-          ups = any-more (ownUp t default) i uplink _ (rw (of, o, r .0)) (so .ups);
+          ups = any-more (ownUp t default) i uplink _ (rw (of, o, u)) (so .ups);
         }
 
-    pub noted-skip : i < bearerCount → inConnection default i (roleAt t i) ≡ false → Noted (i + 1) cells fitting found uplink
-    unfolding fittingAt ownAt ownUp
-    noted-skip l other =
+    pub noted-skip : inConnection default i (roleAt t i) ≡ false → Noted (i + 1) cells fitting found uplink
+    unfolding noteBearer ownAt ownUp
+    noted-skip other =
         record {
           puts = bearer-skip t default i (so .puts) other;
-          notes = stored-skip (fittingAt t default h) (replicate bearerCount 0) 0 i fitting (rw other (getD-replicate bearerCount i 0 0 l)) (so .notes);
+          notes = walk-more (noteBearer t default h) noneNoted i fitting fitting (rw other) (so .notes);
           finds = any-more (ownAt t default) i found found (rw other (sym (or-false found))) (so .finds);
           ups = any-more (ownUp t default) i uplink uplink (rw other (sym (or-false uplink))) (so .ups);
         }
 
+    pub notes-long : length fitting ≡ cellCount
+    unfolding noneNoted
+    notes-long = ap length (so .notes) ∙ walk-long (noteBearer t default h) (bearer-kept t default h) noneNoted i ∙ length-replicate {A = Bool} cellCount false
+
     module _ (l : bearerCount ≤ i) (m : i ≤ bearerCount) where
-      found-done : found ≡ isDefault (roleOf t default)
+      pub found-done : found ≡ isDefault (roleOf t default)
       found-done = done (anyBelow (ownAt t default)) i bearerCount found l m (so .finds) ∙ found-is t default
 
       up-done : uplink ≡ isDefault (roleOf t default) && hasUplink (bearerAt t (indexOf default) .row)
       up-done = done (anyBelow (ownUp t default)) i bearerCount uplink l m (so .ups) ∙ up-is t default
 
-      fitting-done : fitting ≡ fittingOf t default h
-      unfolding fittingOf
-      fitting-done = stored-done (fittingAt t default h) (replicate bearerCount 0) 0 i bearerCount fitting (length-replicate {A = ℕ} bearerCount 0) l m (so .notes)
-
-      pub all-noted : (list : OrderedList) → list .entries ≡ entriesIn cells → the-notes found uplink fitting (list .entries) ≡ notesOf t default h
-      all-noted list e = rw (found-done, up-done, fitting-done, e ∙ bearers-done t default i (so .puts) l m)
+      notes-done : fitting ≡ notesOf t default h
+      notes-done = done (walk (noteBearer t default h) noneNoted) i bearerCount fitting l m (so .notes) ∙ walked-notes
 
 -- ---- over the connection's list
 module _ (t : Table) (default : ℕ) (h : Header) where
-  pub fitting-long : length (fittingOf t default h) ≡ bearerCount
-  unfolding fittingOf
-  fitting-long = tab-length (fittingAt t default h) bearerCount
+  -- the note at an entry's number
+  note-of : (i j : ℕ) → i < bearerCount → j < placeCount → entryNoted (notesOf t default h) (entryOf (identityOf i) j) ≡ fitsAt t default h i j
+  unfolding entryNoted notesOf
+  note-of i j l m = tab-at (noteAt t default h) cellCount (cellOf (identityOf i) j) false (omega arith) ∙ at-cell t default h i j l m
 
-  -- the note of an uplink filter of the connection tells whether it fits
-  note-tells : (i j : ℕ) → Uplink t default i j → entryNoted (fittingOf t default h) (entryOf (identityOf i) j) ≡ fits (filterAt t i j) h
-  unfolding entryNoted fittingOf fittingAt fitsAt
-  note-tells i j u =
-      let l = u .bearer in
-      let back : indexOf (identityOf i) ≡ i = omega arith in
-      let in-range : isIdentity (identityOf i) ≡ true = range-says (identityOf i) .from (omega arith, omega arith) in
-      let of = eq-eqb (connectionAt t i) default (u .of) in
-      let bit = row-noted h (bearerAt t i .row) j (u .place) in
-      rw (in-range, lt-ltb j placeCount (u .place), back, tab-at (fittingAt t default h) bearerCount i 0 l, of, bit, u .up)
-      (twice (fits (filterAt t i j) h))
-    where
-      twice : (b : Bool) → not (not b) ≡ b
-      twice true = refl
-      twice false = refl
+  -- that of an uplink filter of the connection tells whether it fits
+  note-tells : (i j : ℕ) → Uplink t default i j → entryNoted (notesOf t default h) (entryOf (identityOf i) j) ≡ fits (filterAt t i j) h
+  unfolding fitsAt
+  note-tells i j u = note-of i j (u .bearer) (u .place) ∙ rw (eq-eqb (connectionAt t i) default (u .of), u .up)
 
   abbrev Told : Entry → Type 0
-  Told e = entryNoted (fittingOf t default h) e ≡ entryFits t h e
+  Told e = entryNoted (notesOf t default h) e ≡ entryFits t h e
 
   nothing-told : Told nothing
-  unfolding entryNoted
-  nothing-told = sym (nothing-fits t h)
+  unfolding entryNoted notesOf noteAt
+  nothing-told = tab-at (noteAt t default h) cellCount 0 false (omega arith) ∙ sym (nothing-fits t h)
 
   entry-told : (p : ℕ) → p < precedenceCount → Told (getD (entriesOf t default) p nothing)
   entry-told p l =
       ⊎-elim (λ n. subst Told (sym (n .is)) (note-tells (n .index) (n .spot) (n .uplink) ∙ sym (entry-fits t h (n .index) (n .spot))))
       (λ v. subst Told (sym (v .is)) nothing-told) (list-stands t default p l)
 
-  pub noted-first : (otherwise : Route) → firstBy (entryNoted (fittingOf t default h)) otherwise (entriesOf t default) ≡ firstFit t h otherwise (entriesOf t default)
+  pub noted-first : (otherwise : Route) → firstBy (entryNoted (notesOf t default h)) otherwise (entriesOf t default) ≡ firstFit t h otherwise (entriesOf t default)
   noted-first otherwise =
-      first-same t h (entryNoted (fittingOf t default h)) otherwise (entriesOf t default) (λ p l. entry-told p (omega (arith, entries-length t default)))
+      first-same t h (entryNoted (notesOf t default h)) otherwise (entriesOf t default) (λ p l. entry-told p (omega (arith, entries-length t default)))
 
-  -- by the notes of an active default's connection, the route is that by its list
-  pub noted-route : (notes : Notes) → notes ≡ notesOf t default h → isDefault (roleOf t default) ≡ true → (otherwise r : Route)
-      → otherwise ≡ pick (notes .uplink) Discard (Bearer default) → r ≡ firstBy (entryNoted (notes .fitting)) otherwise (notes .list .entries)
-      → r ≡ routeOn t default h (listOf t default)
+  -- all bearers noted, the route of an active default by the notes is that by its list
+  pub noted-route : (i : ℕ) {cells : List ℕ} {fitting : List Bool} {found uplink : Bool} → Noted t default h i cells fitting found uplink → bearerCount ≤ i → i ≤ bearerCount
+      → isDefault (roleOf t default) ≡ true → (otherwise r : Route) → otherwise ≡ pick uplink Discard (Bearer default)
+      → r ≡ firstBy (entryNoted fitting) otherwise (entriesIn cells) → r ≡ routeOn t default h (listOf t default)
   unfolding routeOn otherwiseOf
-  noted-route notes n d otherwise r o e =
-      let up : notes .uplink ≡ hasUplink (bearerAt t (indexOf default) .row) = ap (λ (n : Notes). n .uplink) n ∙ rw d in
-      e ∙ rw (ap (λ (n : Notes). n .fitting) n, ap (λ (n : Notes). n .list) n) (noted-first otherwise) ∙ ap (λ (s : Route). firstFit t h s (entriesOf t default)) (o ∙ rw up)
+  noted-route i {cells} {fitting} {found} {uplink} so l m d otherwise r o e =
+      let up : uplink ≡ hasUplink (bearerAt t (indexOf default) .row) = up-done t default h i so l m ∙ rw d in
+      e ∙ rw (notes-done t default h i so l m, bearers-done t default i (so .puts) l m) (noted-first otherwise)
+      ∙ ap (λ (s : Route). firstFit t h s (entriesOf t default)) (o ∙ rw up)

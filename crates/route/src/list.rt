@@ -1,10 +1,11 @@
 // The ordered list of a connection.
 ghost use mathlib.Core.Path.{_≡_};
-ghost use Prim.Native.Nat.{_<_};
+ghost use Prim.Native.Nat.{_<_, _≤_};
 ghost use lib.ListN.{length, set};
 ghost use Rattle.filter.specs.Sizes.{placeCount, precedenceCount};
+ghost use Rattle.table.specs.Bearers.{lastIdentity};
 ghost use Rattle.route.specs.Lists.{isUplink, entryOf, listOf};
-ghost use Rattle.route.specs.inner.Walk.{decoded, entriesIn, putRow};
+ghost use Rattle.route.specs.inner.Walk.{cellOf, decoded, entriesIn, putRow};
 use filter::Filter;
 use filter::coding::held;
 use filter::coding::uplink;
@@ -32,28 +33,38 @@ pub(crate) fn is_uplink(filter: Filter) -> bool
     held(filter) & uplink(filter)
 }
 
-// An entry while the list is made: a number, since a slice of numbers is lent without a copy.
-const PER_BEARER: u16 = 256;
+// An entry as a number: a slice of numbers is lent without a copy, and a note of the entry stands at its number. 0 names nothing.
+const PER_BEARER: u8 = 16;
 
-fn decoded(cell: u16) -> Entry
+// The numbers that an entry can have.
+pub(crate) const CELLS: usize = 256;
+
+pub(crate) fn cell_of(bearer: u8, j: usize) -> u8
+    requires { ⌜ (bearer ≤ lastIdentity) × (j < placeCount) ⌝ }
+    ensures { λ r. ⌜ r ≡ cellOf bearer j ⌝ }
+{
+    bearer * PER_BEARER + j as u8
+}
+
+pub(crate) fn decoded(cell: u8) -> Entry
     ensures { λ r. ⌜ r ≡ decoded cell ⌝ }
 {
     Entry {
-        bearer: (cell / PER_BEARER) as u8,
-        place: (cell % PER_BEARER) as u8,
+        bearer: cell / PER_BEARER,
+        place: cell % PER_BEARER,
     }
 }
 
-pub(crate) fn put(cells: &mut [u16], precedence: u8, bearer: u8, j: usize)
-    requires { ⌜ (length (now cells) ≡ precedenceCount) × (j < placeCount) ⌝ }
+pub(crate) fn put(cells: &mut [u8], precedence: u8, bearer: u8, j: usize)
+    requires { ⌜ (length (now cells) ≡ precedenceCount) × (bearer ≤ lastIdentity) × (j < placeCount) ⌝ }
     ensures { λ r. ⌜ entriesIn (now (cells .exit)) ≡ set (entriesIn (now (cells .entry))) precedence (entryOf bearer j) ⌝ }
 {
     let p = precedence as usize;
-    cells[p] = bearer as u16 * PER_BEARER + j as u16;
+    cells[p] = cell_of(bearer, j);
 }
 
-fn put_row(cells: &mut [u16], bearer: u8, b: Bearer)
-    requires { ⌜ length (now cells) ≡ precedenceCount ⌝ }
+fn put_row(cells: &mut [u8], bearer: u8, b: Bearer)
+    requires { ⌜ (length (now cells) ≡ precedenceCount) × (bearer ≤ lastIdentity) ⌝ }
     ensures { λ r. ⌜ entriesIn (now (cells .exit)) ≡ putRow (b .row) bearer (entriesIn (now (cells .entry))) ⌝ }
 {
     for j in 0..PLACES {
@@ -64,7 +75,7 @@ fn put_row(cells: &mut [u16], bearer: u8, b: Bearer)
     }
 }
 
-pub(crate) fn listed(cells: &[u16]) -> OrderedList
+fn listed(cells: &[u8]) -> OrderedList
     requires { ⌜ length (now cells) ≡ precedenceCount ⌝ }
     ensures { λ r. ⌜ r .entries ≡ entriesIn (now (cells .entry)) ⌝ }
 {

@@ -1,105 +1,72 @@
-// One walk over the bearers of a connection, which makes its list and notes which of its filters fit a header.
+// What is noted of a connection for a header, bearer by bearer: which of its filters fit.
 ghost use mathlib.Core.Path.{_≡_};
-ghost use Prim.Native.Nat.{_<_};
-ghost use lib.ListN.{length};
-ghost use Rattle.filter.specs.Sizes.{placeCount, precedenceCount};
-ghost use Rattle.table.specs.Bearers.{bearerCount};
-ghost use Rattle.route.specs.inner.Walk.{entriesIn, putRow};
-ghost use Rattle.route.specs.inner.Notes.{withBit, rowNotes, notesOf, entryNoted};
-use crate::list::Entry;
-use crate::list::OrderedList;
+ghost use Prim.Native.Nat.{_<_, _≤_};
+ghost use mathlib.Core.Bool.{false};
+ghost use lib.ListN.{length, getD};
+ghost use Rattle.filter.specs.Sizes.{precedenceCount};
+ghost use Rattle.table.specs.Bearers.{bearerCount, bearerAt, lastIdentity};
+ghost use Rattle.route.specs.Routes.{hasUplink};
+ghost use Rattle.route.specs.inner.Walk.{cellCount, entriesIn, putRow};
+ghost use Rattle.route.specs.inner.Notes.{noteRow};
+use crate::list::cell_of;
 use crate::list::is_uplink;
-use crate::list::listed;
 use crate::list::put;
 use filter::Header;
 use filter::component::PLACES;
-use filter::component::PRECEDENCES;
 use filter::fit::fits;
 use table::Bearer;
 use table::Table;
-use table::bearer::BEARERS;
-use table::bearer::FIRST_IDENTITY;
-use table::bearer::in_connection;
-use table::bearer::index_of;
-use table::bearer::is_default;
-use table::bearer::is_identity;
 
-// Of the filters in a row: whether one is for the uplink, and bit j where that in place j is and fits.
-struct RowNotes {
-    uplink: bool,
-    fitting: u16,
-}
-
-pub(crate) struct Notes {
-    // the default is active, and has an uplink filter
-    pub(crate) found: bool,
-    pub(crate) uplink: bool,
-    // by bearer and identifier, which uplink filters fit
-    pub(crate) fitting: [u16; BEARERS],
-    pub(crate) list: OrderedList,
-}
-
-fn with_bit(notes: u16, j: usize, fit: bool) -> u16
-    requires { ⌜ j < placeCount ⌝ }
-    ensures { λ r. ⌜ r ≡ withBit notes j fit ⌝ }
+// Written out, since an index that is a literal asks for no copy of the table.
+pub(crate) fn bearer_at(t: Table, i: usize) -> Bearer
+    requires { ⌜ i < bearerCount ⌝ }
+    ensures { λ r. ⌜ r ≡ bearerAt t i ⌝ }
 {
-    if fit { notes | (1 << j) } else { notes }
+    match i {
+        0 => t.bearers[0],
+        1 => t.bearers[1],
+        2 => t.bearers[2],
+        3 => t.bearers[3],
+        4 => t.bearers[4],
+        5 => t.bearers[5],
+        6 => t.bearers[6],
+        7 => t.bearers[7],
+        8 => t.bearers[8],
+        9 => t.bearers[9],
+        _ => t.bearers[10],
+    }
 }
 
-fn note_row(cells: &mut [u16], bearer: u8, b: Bearer, header: Header) -> RowNotes
-    requires { ⌜ length (now cells) ≡ precedenceCount ⌝ }
-    ensures { λ r. ⌜ (r ≡ rowNotes header (b .row)) × (entriesIn (now (cells .exit)) ≡ putRow (b .row) bearer (entriesIn (now (cells .entry)))) ⌝ }
+// Puts the uplink filters of a row into the list, and notes at the number of each whether it fits; gives whether there is one.
+pub(crate) fn note_row(
+    cells: &mut [u8],
+    fitting: &mut [bool],
+    bearer: u8,
+    b: Bearer,
+    header: Header,
+) -> bool
+    requires { ⌜ (length (now cells) ≡ precedenceCount) × (length (now fitting) ≡ cellCount) × (bearer ≤ lastIdentity) ⌝ }
+    ensures { λ r. ⌜ (r ≡ hasUplink (b .row)) × (entriesIn (now (cells .exit)) ≡ putRow (b .row) bearer (entriesIn (now (cells .entry)))) × (now (fitting .exit) ≡ noteRow header (b .row) bearer (now (fitting .entry))) ⌝ }
 {
     let mut uplink = false;
-    let mut fitting: u16 = 0;
     for j in 0..PLACES {
         let f = b.row[j];
         if is_uplink(f) {
-            put(cells, f.precedence, bearer, j);
             uplink = true;
-            fitting = with_bit(fitting, j, fits(f, header));
+            // Asked before the stores, so that of a filter only what is looked at is read.
+            let fit = fits(f, header);
+            let cell = cell_of(bearer, j) as usize;
+            fitting[cell] = fit;
+            put(cells, f.precedence, bearer, j);
         }
     }
-    RowNotes { uplink, fitting }
+    uplink
 }
 
-pub(crate) fn noted(t: Table, default: u8, header: Header) -> Notes
-    ensures { λ r. ⌜ r ≡ notesOf t default header ⌝ }
+// Whether the filter of the entry with this number fits.
+pub(crate) fn cell_noted(fitting: &[bool], cell: u8) -> bool
+    requires { ⌜ length (now fitting) ≡ cellCount ⌝ }
+    ensures { λ r. ⌜ r ≡ getD (now (fitting .entry)) cell false ⌝ }
 {
-    let mut cells = [0; PRECEDENCES];
-    let mut fitting = [0; BEARERS];
-    let mut found = false;
-    let mut uplink = false;
-    for i in 0..BEARERS {
-        let b = t.bearers[i];
-        let role = b.role;
-        if in_connection(i, role, default) {
-            let c = t.bearers[i];
-            let row = note_row(&mut cells[..], i as u8 + FIRST_IDENTITY, c, header);
-            fitting[i] = row.fitting;
-            let own = is_default(role);
-            found = found | own;
-            uplink = uplink | (own & row.uplink);
-        }
-    }
-    let list = listed(&cells[..]);
-    Notes {
-        found,
-        uplink,
-        fitting,
-        list,
-    }
-}
-
-// An entry that names nothing never fits.
-pub(crate) fn entry_noted(fitting: &[u16], entry: Entry) -> bool
-    requires { ⌜ length (now fitting) ≡ bearerCount ⌝ }
-    ensures { λ r. ⌜ r ≡ entryNoted (now (fitting .entry)) entry ⌝ }
-{
-    let j = entry.place as usize;
-    if is_identity(entry.bearer) & (j < PLACES) {
-        fitting[index_of(entry.bearer)] & (1 << j) != 0
-    } else {
-        false
-    }
+    fitting[cell as usize]
 }

@@ -1,11 +1,9 @@
 -- What one walk notes of a connection for a header, and the first position of a list by these notes. Over the connection's own list that is the
 -- first that fits: `noted-first` in proofs/Noting.antt.
-use Prim.Native.Nat.{ℕ, _^_}
-use mathlib.Core.Bool.{Bool, false, not, _&&_}
+use Prim.Native.Nat.{ℕ, _/_, _%_}
+use mathlib.Core.Bool.{Bool, false, _&&_}
 use mathlib.Core.List.{List, [], _∷_}
-use lib.Bits.{bitAnd, bitOr}
-use lib.Dec.{eqb, ltb}
-use lib.ListN.{getD}
+use lib.ListN.{getD, set, replicate}
 use Rattle.laws.specs.Says.{pick}
 use Rattle.laws.specs.Index.{walk, tab}
 use Rattle.filter.specs.declared.component.Filter.{Filter}
@@ -13,51 +11,41 @@ use Rattle.filter.specs.declared.packet.Header.{Header}
 use Rattle.filter.specs.Fit.{fits}
 use Rattle.filter.specs.Sizes.{placeCount}
 use Rattle.table.specs.declared.bearer.Table.{Table}
-use Rattle.table.specs.Bearers.{bearerCount, isIdentity, indexOf, bearerAt, roleAt, inRow, inConnection, isDefault, roleOf}
+use Rattle.table.specs.Bearers.{isIdentity, indexOf, identityOf, bearerAt, roleAt, inRow, filterAt, inConnection}
 use Rattle.route.specs.declared.answer.Route.{Route}
 use Rattle.route.specs.declared.answer.Route.the-variants.{Bearer}
 use Rattle.route.specs.declared.list.Entry.{Entry}
-use Rattle.route.specs.declared.notes.RowNotes.{RowNotes}
-use Rattle.route.specs.declared.notes.Notes.{Notes}
-use Rattle.route.specs.Lists.{isUplink, listOf}
-use Rattle.route.specs.Routes.{hasUplink}
+use Rattle.route.specs.Lists.{isUplink}
+use Rattle.route.specs.inner.Walk.{cellOf, cellCount}
 
--- ---- a row: bit j is set where the filter in place j is for the uplink and fits
-unfoldable pub withBit : ℕ → ℕ → Bool → ℕ
-withBit notes j fit = pick fit (bitOr notes (2 ^ j)) notes
+-- ---- by bearer and identifier, whether it is an uplink filter of the connection that fits
+unfoldable pub fitsAt : Table → ℕ → Header → ℕ → ℕ → Bool
+fitsAt t default h i j = inConnection default i (roleAt t i) && (isUplink (filterAt t i j) && fits (filterAt t i j) h)
 
-unfoldable pub fitsAt : Header → List Filter → ℕ → Bool
-fitsAt h row j = isUplink (inRow row j) && fits (inRow row j) h
+-- .. at the number of its entry
+unfoldable pub noteAt : Table → ℕ → Header → ℕ → Bool
+noteAt t default h cell = isIdentity (cell / 16) && fitsAt t default h (indexOf (cell / 16)) (cell % 16)
 
-unfoldable pub noteAt : Header → List Filter → ℕ → ℕ → ℕ
-noteAt h row notes j = withBit notes j (fitsAt h row j)
+unfoldable pub notesOf : Table → ℕ → Header → List Bool
+notesOf t default h = tab (noteAt t default h) cellCount
 
-abbrev pub fittingIn : Header → List Filter → ℕ
-fittingIn h row = walk (noteAt h row) 0 placeCount
+-- ---- how the code makes them: it walks over bearers and places, and stores for each uplink filter whether it fits. The notes so walked are those
+-- above, on every table: `walked-notes` in proofs/Noting.antt
+unfoldable pub noneNoted : List Bool
+noneNoted = replicate cellCount false
 
-abbrev pub rowNotes : Header → List Filter → RowNotes
-rowNotes h row = record { uplink = hasUplink row; fitting = fittingIn h row }
+unfoldable pub noteFilter : Header → List Filter → ℕ → List Bool → ℕ → List Bool
+noteFilter h row bearer notes j = pick (isUplink (inRow row j)) (set notes (cellOf bearer j) (fits (inRow row j) h)) notes
 
--- ---- a connection: the notes of its bearers, none of another
-unfoldable pub fittingAt : Table → ℕ → Header → ℕ → ℕ
-fittingAt t default h i = pick (inConnection default i (roleAt t i)) (fittingIn h (bearerAt t i .row)) 0
+unfoldable pub noteRow : Header → List Filter → ℕ → List Bool → List Bool
+noteRow h row bearer notes = walk (noteFilter h row bearer) notes placeCount
 
-unfoldable pub fittingOf : Table → ℕ → Header → List ℕ
-fittingOf t default h = tab (fittingAt t default h) bearerCount
-
-abbrev pub notesOf : Table → ℕ → Header → Notes
-notesOf t default h =
-    record {
-      found = isDefault (roleOf t default);
-      uplink = isDefault (roleOf t default) && hasUplink (bearerAt t (indexOf default) .row);
-      fitting = fittingOf t default h;
-      list = listOf t default;
-    }
+unfoldable pub noteBearer : Table → ℕ → Header → List Bool → ℕ → List Bool
+noteBearer t default h notes i = pick (inConnection default i (roleAt t i)) (noteRow h (bearerAt t i .row) (identityOf i) notes) notes
 
 -- ---- positions, tried by the notes
-unfoldable pub entryNoted : List ℕ → Entry → Bool
-entryNoted fitting e =
-    pick (isIdentity (e .bearer) && ltb (e .place) placeCount) (not (eqb (bitAnd (getD fitting (indexOf (e .bearer)) 0) (2 ^ e .place)) 0)) false
+unfoldable pub entryNoted : List Bool → Entry → Bool
+entryNoted notes e = getD notes (cellOf (e .bearer) (e .place)) false
 
 -- the bearer of the first entry with the test
 unfoldable pub firstBy : (Entry → Bool) → Route → List Entry → Route

@@ -1,6 +1,6 @@
 -- How the code makes the list: it walks over bearers and places, and stores each uplink filter's entry at its precedence. The list so walked is
 -- the one that is defined, on every table: `walked-list` in proofs/Listing.antt.
-use Prim.Native.Nat.{ℕ, _/_, _%_}
+use Prim.Native.Nat.{ℕ, _+_, _*_, _/_, _%_}
 use mathlib.Core.List.{List, map}
 use lib.Dec.{eqb}
 use lib.ListN.{set, replicate}
@@ -30,9 +30,15 @@ putBearer t default es i = pick (eqb (connectionAt t i) default) (putRow (bearer
 unfoldable pub walked : Table → ℕ → List Entry
 walked t default = walk (putBearer t default) emptyList bearerCount
 
--- while it is made, an entry is a number, and these are the entries of a list of numbers
+-- an entry as a number: its bearer's identity, then its place; and these are the entries of a list of numbers
+abbrev pub cellOf : ℕ → ℕ → ℕ
+cellOf bearer place = bearer * 16 + place
+
+abbrev pub cellCount : ℕ
+cellCount = 256
+
 unfoldable pub decoded : ℕ → Entry
-decoded cell = entryOf (cell / 256) (cell % 256)
+decoded cell = entryOf (cell / 16) (cell % 16)
 
 unfoldable pub entriesIn : List ℕ → List Entry
 entriesIn cells = map decoded cells

@@ -2,10 +2,9 @@
 -- Assumes nothing.
 use mathlib.Core.Path.{refl}
 use Rattle.route.specs.inner.Walk.{decoded}
-use borrow.Author.Needs.{needs}
 use Rattle.route.proofs.list.decoded.Statement.{statement}
 use Rattle.route.proofs.list.decoded.Tie as tie
 
 pub decoded-spec : {M : Type 1} → statement M
 unfolding decoded
-decoded-spec = tie.close (tie.spec (λ c. search needs) (λ c. search needs) (λ c. refl))
+decoded-spec = tie.close (tie.spec (λ c. refl))

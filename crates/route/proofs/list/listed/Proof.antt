@@ -38,6 +38,6 @@ listed-spec =
     Inv-loop μ-loop
     (λ c κs. search needs)
     (λ c. (omega arith, stored-start _ _))
-    (λ c. search needs) (λ c. search needs) (λ c κs. search needs) (λ c. search needs) (λ c. search needs) (λ c. search needs) (λ c. search needs)
+    (λ c. search needs) (λ c κs. search needs) (λ c. search needs) (λ c. search needs) (λ c. search needs) (λ c. search needs)
     loop-again
     returns)

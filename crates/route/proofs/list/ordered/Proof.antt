@@ -23,7 +23,7 @@ slice-aggregate-put-row : tie.Need-slice-aggregate-put-row Inv-loop μ-loop
 slice-aggregate-put-row c = let l = c .before .before .before .before .before .before .loop in sym (bearers-long _ _ (l .i) (l .inv .1))
 
 put-row-requires : tie.Need-put-row-requires Inv-loop μ-loop
-put-row-requires c κs = let l = c .before .before .before .before .before .before .loop in bearers-long _ _ (l .i) (l .inv .1)
+put-row-requires c κs = let l = c .before .before .before .before .before .before .loop in (bearers-long _ _ (l .i) (l .inv .1), omega arith)
 
 loop-again : tie.Need-loop-again Inv-loop μ-loop
 loop-again c =

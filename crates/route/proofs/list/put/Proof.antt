@@ -6,11 +6,7 @@ use Rattle.route.proofs.list.put.Statement.{statement}
 use Rattle.route.proofs.list.put.Tie as tie
 
 returns : tie.Need-returns
-returns c = cell-put _ _ _ _ (c .pre .1)
+returns c = rw (c .cell-of .ensures) (cell-put _ _ _ _ (c .before .before .pre .2))
 
 pub put-spec : {M : Type 1} → statement M
-put-spec =
-    tie.close
-    (tie.spec
-    (λ c. search needs) (λ c. search needs) (λ c. search needs) (λ c. search needs) (λ c. search needs) (λ c. search needs)
-    returns)
+put-spec = tie.close (tie.spec (λ c κs. search needs) (λ c. search needs) (λ c. search needs) returns)

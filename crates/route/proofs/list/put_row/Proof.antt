@@ -19,7 +19,8 @@ abbrev μ-loop : tie.MeasureT-loop
 put-requires : tie.Need-put-requires Inv-loop μ-loop
 put-requires c κs =
     let l = c .before .before .before .before .before .loop in
-    (row-long _ _ _ (l .j) (l .inv .1) ∙ c .before .before .before .before .before .before .before .pre, omega arith)
+    let start = c .before .before .before .before .before .before .before in
+    (row-long _ _ _ (l .j) (l .inv .1) ∙ start .pre .0, start .pre .1, omega arith)
 
 loop-again : tie.Need-loop-again Inv-loop μ-loop
 loop-again c =
