@@ -17,8 +17,8 @@ use script::text::flush;
 use table::Table;
 
 // The table and the operation are locals of the loop, and a line is handed only what it needs of them: a struct of both would be copied
-// several times a line. A proved loop has to end, and nothing says that the input does: the turns count down from a number that no run
-// uses up.
+// several times a line. The table comes in as `t`: made here, its literal would have every table of this function kept in pieces. A proved
+// loop has to end, and nothing says that the input does: the turns count down from a number that no run uses up.
 fn run_lines(mut t: Table, chunk: &mut [u8], line: &mut [u8], octets: &mut [u8], out: &mut [u8]) {
     let mut e = empty_operation(element::Answer::Identifiers);
     let mut at = 0;

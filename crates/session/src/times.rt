@@ -22,7 +22,7 @@ fn no_reply() -> Reply {
 }
 
 // A call as often as a line asks for it, each on the table that the one before left. Each has a loop of its own with one place that
-// calls, so that the compiler takes the call into the loop; the table and the reply are locals, so that an outcome is not copied whole.
+// calls, so that the compiler takes the call into the loop; table and reply are kept apart, so that an outcome is not copied whole.
 pub(crate) fn default_times(mut t: Table, bearer: u8, times: u64) -> Outcome {
     let mut reply = no_reply();
     let mut i = 0;
