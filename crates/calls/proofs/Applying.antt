@@ -25,15 +25,15 @@ use Rattle.table.specs.declared.bearer.Table.{Table}
 use Rattle.table.specs.Bearers.{bearerCount, indexOf, identityOf, bearerAt, roleAt, transactionAt, filterAt, View, bearerOf, tableOf, build}
 use Rattle.table.specs.Ranges.{TableInRange}
 use Rattle.table.specs.WellFormed.{wellFormed}
-use Rattle.calls.specs.declared.reply.FollowUps.{FollowUps}
+use Rattle.calls.specs.declared.reply.Reply.{Reply}
 use Rattle.calls.specs.declared.reply.Outcome.{Outcome}
 use Rattle.calls.specs.declared.seen.Seen.{Seen}
 use Rattle.calls.specs.declared.decide.Decision.{Decision}
 use Rattle.calls.specs.declared.decide.Fate.{Fate}
-use Rattle.calls.specs.Reply.{followOf, outcome}
+use Rattle.calls.specs.Reply.{outcome}
 use Rattle.calls.specs.Lay.{takes}
 use Rattle.calls.specs.inner.Overlay.{goneIn, overlaidIn, glancedOf, lookedInto, touched, seenOf, seenAt}
-use Rattle.calls.specs.inner.Decide.{unseen, conflictSeen, seenIn, followsSeen, fateOf, fateAt, fatedView}
+use Rattle.calls.specs.inner.Decide.{unseen, conflictSeen, seenIn, followsSeen, repliedSeen, fateOf, fateAt, fatedView}
 use Rattle.calls.proofs.Rows.{bearerWith, row-kept-at, Stored, store-more, store-skip, store-still}
 use Rattle.calls.proofs.Overlays.{looked-seen, glanced-seen}
 
@@ -155,10 +155,10 @@ module _ (t : Table) (bearer : ℕ) (value : List ℕ) (decides : List Seen → 
   reading k e = taking k e (tab (takes (e .filters)) precedenceCount) (tab (goneIn e) placeCount)
 
   pub whole : (o : Outcome) → reading (indexOf bearer) (readElement value) ≡ o → (fine : Bool) (k : ℕ) (e : Element) (taken gone : List Bool) (seen : List Seen) (d : Decision) (s : Table)
-      (follow : FollowUps) → fine ≡ wellFormed t → k ≡ indexOf bearer → e ≡ readElement value → taken ≡ tab (takes (e .filters)) precedenceCount → gone ≡ tab (goneIn e) placeCount
+      (reply : Reply) → fine ≡ wellFormed t → k ≡ indexOf bearer → e ≡ readElement value → taken ≡ tab (takes (e .filters)) precedenceCount → gone ≡ tab (goneIn e) placeCount
       → seen ≡ tab (seenAt taken gone t k) bearerCount → d ≡ decides seen fine (e .answer) → s ≡ build (becomes k seen d (e .filters) taken gone)
-      → follow ≡ followOf (picks (followsSeen seen d) identityOf bearerCount) → record { table = s; reply = record { answer = d .answer; follow = follow } } ≡ o
-  whole o means fine k e taken gone seen d s follow ef ek ee et eg es ed ea er =
+      → reply ≡ repliedSeen seen d → record { table = s; reply = reply } ≡ o
+  whole o means fine k e taken gone seen d s reply ef ek ee et eg es ed ea er =
       rw (ea, er)
       (ap (given k e taken gone seen) ed ∙ ap (λ (fine : Bool). given k e taken gone seen (decides seen fine (e .answer))) ef ∙ ap (seeing k e taken gone) es
       ∙ ap (taking k e taken) eg ∙ ap (λ (taken : List Bool). taking k e taken (tab (goneIn e) placeCount)) et ∙ ap (reading k) ee

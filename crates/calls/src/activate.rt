@@ -5,7 +5,7 @@ ghost use Rattle.table.specs.declared.bearer.Role.the-variants.{Dedicated};
 ghost use Rattle.calls.specs.Others.{activateDefaultOf, activateDedicatedOf};
 use crate::decide::decide_dedicated;
 use crate::decide::fate_of;
-use crate::decide::followers;
+use crate::decide::reply_of;
 use crate::modify::idle_bearer;
 use crate::overlay::gone_by;
 use crate::overlay::overlaid;
@@ -16,7 +16,6 @@ use crate::plain::glance;
 use crate::plain::stands;
 use crate::plain::stepped;
 use crate::reply::Outcome;
-use crate::reply::Reply;
 use crate::reply::answer_with;
 use crate::seen::glance_at;
 use crate::seen::is_touched;
@@ -84,24 +83,12 @@ pub fn activate_dedicated(t: Table, bearer: u8, link: u8, transaction: u8, value
             s.bearers[i] = idle_bearer();
         } else if fate.change {
             let b = s.bearers[i];
-            let laid = overlaid(
-                b,
-                fate.transaction,
-                fate.lay,
-                i == k,
-                new,
-                &taken[..],
-                &gone[..],
-            );
+            let laid = overlaid(b, fate, i == k, new, &taken[..], &gone[..]);
             s.bearers[i] = with_role(laid, fate.lay & (i == k), link);
         }
     }
-    let answer = d.answer;
     Outcome {
         table: s,
-        reply: Reply {
-            answer,
-            follow: followers(seen, d),
-        },
+        reply: reply_of(seen, d),
     }
 }

@@ -8,11 +8,12 @@ ghost use Rattle.calls.specs.declared.reply.Answer.the-variants.{Reattac
 ghost use Rattle.calls.specs.Reply.{followOf};
 ghost use Prim.Native.Nat.{_<_};
 ghost use Rattle.calls.specs.inner.Walk.{noted};
-ghost use Rattle.calls.specs.inner.Decide.{stopped, homeOf, conflictSeen, roleSeen, emptiesSeen, opensSeen, mismatchSeen, releasedSeen, onlySeen, decidedLaid, decidedBy, decidedNamed, decided, availableSeen, decidedCreated, decidedOpened, decidedDedicated, followsSeen, fateOf};
+ghost use Rattle.calls.specs.inner.Decide.{stopped, homeOf, conflictSeen, roleSeen, emptiesSeen, opensSeen, mismatchSeen, releasedSeen, onlySeen, decidedLaid, decidedBy, decidedNamed, decided, availableSeen, decidedCreated, decidedOpened, decidedDedicated, followsSeen, repliedSeen, fateOf};
 use crate::reply::Answer;
 use crate::reply::Cause;
 use crate::reply::FollowUps;
 use crate::reply::Refusal;
+use crate::reply::Reply;
 use crate::reply::cause_of;
 use crate::reply::none_follow;
 use crate::seen::Seen;
@@ -295,7 +296,7 @@ fn note(s: FollowUps, follows: bool, bearer: u8) -> FollowUps
 }
 
 // Those that lose a filter, where the message changes something.
-pub(crate) fn followers(seen: [Seen; BEARERS], d: Decision) -> FollowUps
+fn followers(seen: [Seen; BEARERS], d: Decision) -> FollowUps
     ensures { λ r. ⌜ r ≡ followOf (picks (followsSeen seen d) identityOf bearerCount) ⌝ }
 {
     let mut s = none_follow();
@@ -306,6 +307,16 @@ pub(crate) fn followers(seen: [Seen; BEARERS], d: Decision) -> FollowUps
         s = note(s, follows, i as u8 + FIRST_IDENTITY);
     }
     s
+}
+
+pub(crate) fn reply_of(seen: [Seen; BEARERS], d: Decision) -> Reply
+    ensures { λ r. ⌜ r ≡ repliedSeen seen d ⌝ }
+{
+    let answer = d.answer;
+    Reply {
+        answer,
+        follow: followers(seen, d),
+    }
 }
 
 // What becomes of one bearer.

@@ -7,12 +7,11 @@ ghost use Rattle.table.specs.declared.bearer.Role.the-variants.{Idle};
 ghost use Rattle.calls.specs.Modify.{creates, modifyOf};
 use crate::decide::decide;
 use crate::decide::fate_of;
-use crate::decide::followers;
+use crate::decide::reply_of;
 use crate::overlay::gone_by;
 use crate::overlay::overlaid;
 use crate::overlay::taken_by;
 use crate::reply::Outcome;
-use crate::reply::Reply;
 use crate::seen::glance_at;
 use crate::seen::is_touched;
 use crate::seen::nothing_seen;
@@ -77,23 +76,11 @@ pub fn modify(t: Table, bearer: u8, transaction: u8, value: &[u8]) -> Outcome
             s.bearers[i] = idle_bearer();
         } else if fate.change {
             let b = s.bearers[i];
-            s.bearers[i] = overlaid(
-                b,
-                fate.transaction,
-                fate.lay,
-                i == k,
-                new,
-                &taken[..],
-                &gone[..],
-            );
+            s.bearers[i] = overlaid(b, fate, i == k, new, &taken[..], &gone[..]);
         }
     }
-    let answer = d.answer;
     Outcome {
         table: s,
-        reply: Reply {
-            answer,
-            follow: followers(seen, d),
-        },
+        reply: reply_of(seen, d),
     }
 }

@@ -8,6 +8,7 @@ ghost use Rattle.filter.specs.Coding.{held};
 ghost use Rattle.filter.specs.Sizes.{placeCount, precedenceCount};
 ghost use Rattle.calls.specs.Lay.{takes};
 ghost use Rattle.calls.specs.inner.Overlay.{clears, goneIn, overlaidIn};
+use crate::decide::Fate;
 use crate::modify::does_create;
 use element::BareOperation;
 use element::Element;
@@ -67,21 +68,21 @@ pub(crate) fn held_where(asked: bool, f: Filter) -> bool
     if asked { held(f) } else { false }
 }
 
-// The bearer with this transaction, and where it is laid on, without the filters that are in conflict and with those that are new.
+// The bearer with the transaction that it is to have, and where it is laid on, without the filters that are in conflict and with those that are new.
 pub(crate) fn overlaid(
     b: Bearer,
-    transaction: u8,
-    lay: bool,
+    fate: Fate,
     named: bool,
     new: [Filter; PLACES],
     taken: &[bool],
     gone: &[bool],
 ) -> Bearer
     requires { ⌜ (length (now taken) ≡ precedenceCount) × (length (now gone) ≡ placeCount) ⌝ }
-    ensures { λ r. ⌜ r ≡ record { role = b .role; transaction = transaction; row = tab (overlaidIn (now (taken .entry)) (now (gone .entry)) lay named new (b .row)) placeCount } ⌝ }
+    ensures { λ r. ⌜ r ≡ record { role = b .role; transaction = fate .transaction; row = tab (overlaidIn (now (taken .entry)) (now (gone .entry)) (fate .lay) named new (b .row)) placeCount } ⌝ }
 {
+    let lay = fate.lay;
     let mut c = b;
-    c.transaction = transaction;
+    c.transaction = fate.transaction;
     for j in 0..PLACES {
         let f = c.row[j];
         let n = new[j];

@@ -6,7 +6,7 @@ use mathlib.Core.List.{List}
 use lib.Dec.{eqb, leb}
 use lib.ListN.{getD}
 use Rattle.laws.specs.Says.{pick}
-use Rattle.laws.specs.Index.{anyBelow}
+use Rattle.laws.specs.Index.{anyBelow, picks}
 use Rattle.filter.specs.declared.component.Filter.{Filter}
 use Rattle.filter.specs.Build.{emptyFilter}
 use Rattle.element.specs.declared.answer.Answer.{Answer as ReadAnswer}
@@ -24,7 +24,8 @@ use Rattle.calls.specs.declared.reply.Answer.the-variants.{Accept, Rejec
 use Rattle.calls.specs.declared.seen.Seen.{Seen}
 use Rattle.calls.specs.declared.decide.Decision.{Decision}
 use Rattle.calls.specs.declared.decide.Fate.{Fate}
-use Rattle.calls.specs.Reply.{causeOf}
+use Rattle.calls.specs.declared.reply.Reply.{Reply}
+use Rattle.calls.specs.Reply.{causeOf, followOf}
 use Rattle.calls.specs.inner.Overlay.{overlaidIn}
 
 abbrev pub unseen : Seen
@@ -117,6 +118,9 @@ module _ (seen : List Seen) where
   -- ---- who loses a filter is told of it, where something is changed
   unfoldable pub followsSeen : Decision → ℕ → Bool
   followsSeen d i = d .change && isDedicated (seenIn i .role) && conflictSeen (seenIn i) (d .connection) i
+
+  abbrev pub repliedSeen : Decision → Reply
+  repliedSeen d = record { answer = d .answer; follow = followOf (picks (followsSeen d) identityOf bearerCount) }
 
 -- ---- what becomes of one bearer: whether it goes, whether it changes, whether its row is laid on, and its transaction
 unfoldable pub fateOf : Seen → ℕ → Bool → Decision → ℕ → Fate

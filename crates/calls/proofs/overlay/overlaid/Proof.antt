@@ -14,10 +14,10 @@ use Rattle.calls.proofs.overlay.overlaid.Statement.{statement}
 use Rattle.calls.proofs.overlay.overlaid.Tie as tie
 
 abbrev Inv-loop : tie.InvT-loop
-Inv-loop transaction lay named taken gone new c₀ j₀ c j = Laying (overlaidIn taken gone lay named new (c₀ .row)) c₀ c j
+Inv-loop named taken gone new lay c₀ j₀ c j = Laying (overlaidIn taken gone lay named new (c₀ .row)) c₀ c j
 
 abbrev μ-loop : tie.MeasureT-loop
-μ-loop transaction lay named taken gone new c₀ j₀ c j = placeCount - j
+μ-loop named taken gone new lay c₀ j₀ c j = placeCount - j
 
 loop-again : tie.Need-loop-again Inv-loop μ-loop
 loop-again c =
