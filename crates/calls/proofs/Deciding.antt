@@ -44,7 +44,7 @@ use Rattle.calls.specs.Steps.{opensAt, isOpen, closedView, closed, cutVi
 use Rattle.calls.specs.Lay.{takenBy, takes, loses, losesAt, conflictOnDefault, follows, laidView, released, followers, otherAt, onlyConnection, layOrRelease, layWithin, layOf}
 use Rattle.calls.specs.Modify.{mismatch, creates, deletedFilters, deletedTft, modifiedBy, modifyRead, modifyNamed, modifyOf}
 use Rattle.calls.specs.inner.Walk.{so}
-use Rattle.calls.specs.inner.Overlay.{goneIn, tookIn, remainsIn, lostIn, seenRow, overlaidIn, seenOf, seenAt}
+use Rattle.calls.specs.inner.Overlay.{goneIn, takenIn, remainsIn, lostIn, seenRow, overlaidIn, seenOf, seenAt}
 use Rattle.calls.specs.inner.Decide.{unseen, stopped, homeOf, conflictSeen, seenIn, roleSeen, emptiesSeen, opensSeen, mismatchSeen, defaultConflict, otherSeen, releasedSeen, onlySeen, decidedLaid, decidedBy, decidedNamed, decided, followsSeen, fateOf, fatedView}
 use Rattle.calls.proofs.Views.{views-same, transaction-built}
 use Rattle.calls.proofs.Rows.{self-built}
@@ -213,7 +213,7 @@ module _ (t : Table) (ok : TableInRange t) (bearer x : ℕ) (value : List ℕ) w
   -- a bearer of a well-formed table that is not named and is seen to lose nothing has no conflict
   pub spared : WellFormed t → (i j : ℕ) → i < bearerCount → j < placeCount → eqb i k ≡ false → seenIn seen i .loses ≡ false
       → held (filterAt t i j) && takes new (filterAt t i j .precedence) ≡ false
-  unfolding held seenRow lostIn tookIn remainsIn
+  unfolding held seenRow lostIn takenIn remainsIn
   spared w i j l m n h =
       ⊎-elim
       (λ a. ap (λ (f : Filter). held f && takes new (f .precedence)) (w .empty i j l m (idle-says (roleAt t i) .to a)) ∙ empty-free)
@@ -366,7 +366,7 @@ module _ (t : Table) (ok : TableInRange t) (bearer x : ℕ) (value : List ℕ) w
       took-none i j l m = took-at i j l m ∙ takes-none (filterAt t i j .precedence)
 
       loses-none : (i : ℕ) → i < bearerCount → seenIn seen i .loses ≡ false
-      unfolding seenOf seenRow lostIn tookIn
+      unfolding seenOf seenRow lostIn takenIn
       loses-none i l =
           ap (λ (b : Seen). b .loses) (seen-at i l)
           ∙ ap (λ (b : Bool). not (isIdle (roleAt t i)) && b)
@@ -392,7 +392,7 @@ module _ (t : Table) (ok : TableInRange t) (bearer x : ℕ) (value : List ℕ) w
 
       emptied-at : (i j : ℕ) → i < bearerCount → j < placeCount
           → overlaidIn taken gone (eqb i k || conflictSeen (seenIn seen i) c i) (eqb i k) new (bearerAt t i .row) j ≡ pick (eqb i k && goneIn e j) emptyFilter (filterAt t i j)
-      unfolding overlaidIn tookIn
+      unfolding overlaidIn takenIn
       emptied-at i j l m = rw (none-new j m, took-none i j l m, no-conflict i l, gone-at j m) (go (eqb i k) (goneIn e j) (held (filterAt t i j)))
         where
           go : (named gone h : Bool) → pick (((named || false) && named) && false) (inRow new j) (pick ((((named || false) && named) && gone) || (((named || false) && false) && h)) emptyFilter (filterAt t i j))

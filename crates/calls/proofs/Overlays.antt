@@ -17,7 +17,7 @@ use Rattle.table.specs.Bearers.{inRow, isIdle}
 use Rattle.calls.specs.declared.seen.Seen.{Seen}
 use Rattle.calls.specs.declared.seen.SeenRow.{SeenRow}
 use Rattle.calls.specs.Steps.{holdsIn, staysIn}
-use Rattle.calls.specs.inner.Overlay.{tookIn, remainsIn, lostIn, seenRow, overlaidIn, glancedOf, lookedInto, takenIn, touched, seenOf}
+use Rattle.calls.specs.inner.Overlay.{takenIn, remainsIn, lostIn, seenRow, overlaidIn, glancedOf, lookedInto, touched, seenOf}
 use Rattle.calls.proofs.Rows.{bearerWith}
 use Rattle.laws.proofs.Says.{never}
 use Rattle.laws.proofs.Tests.{both}
@@ -34,7 +34,7 @@ lost-so false false h g = refl
 
 module _ (taken gone : List Bool) (named : Bool) (row : List Filter) where
   unfoldable pub askedIn : ℕ → Bool
-  askedIn j = (named || tookIn taken gone named row j) && held (inRow row j)
+  askedIn j = (named || takenIn taken row j) && held (inRow row j)
 
   unfoldable pub keptIn : ℕ → Bool
   keptIn j = askedIn j && not (named && getD gone j false)
@@ -50,7 +50,7 @@ module _ (taken gone : List Bool) (named : Bool) (row : List Filter) where
   pub see-more : (loses holds stays h : Bool) (j : ℕ) → j < placeCount → h ≡ (named || getD taken (inRow row j .precedence) false) && held (inRow row j) → Seeing loses holds stays j
       → let stay = h && not (named && getD gone j false) in
       Seeing (loses || (getD taken (inRow row j .precedence) false && stay)) (holds || h) (stays || stay) (j + 1)
-  unfolding lostIn remainsIn tookIn askedIn keptIn
+  unfolding lostIn remainsIn takenIn askedIn keptIn
   see-more loses holds stays h j l e s = (
     omega arith,
     any-more (lostIn taken gone named row) j loses _ (rw e (ap (λ (b : Bool). loses || b) (lost-so named (getD taken (inRow row j .precedence) false) (held (inRow row j)) (getD gone j false)))) (s .1),
@@ -116,7 +116,7 @@ module _ (taken gone : List Bool) (lay named : Bool) (new row : List Filter) (j 
 
   pub laid-else : h ≡ false → (f : Filter) (r b : Bool) → f ≡ inRow row j → r ≡ (lay && getD taken (f .precedence) false) && held f → ((lay && named) && getD gone j false) || r ≡ b
       → pick b emptyFilter (inRow row j) ≡ overlaidIn taken gone lay named new row j
-  unfolding overlaidIn tookIn
+  unfolding overlaidIn takenIn
   laid-else e f r b at er t = rw (sym eh ∙ e, ← at, ← er, t)
 
 -- ---- an overlay that brings filters: it is laid on the named bearer, and on those of the connection that lose one
@@ -154,13 +154,13 @@ module _ (new row : List Filter) (create named : Bool) (taken gone : List Bool) 
   pub overlaid-placed : (connected l lay : Bool) → lay ≡ named || (connected && l) → (named ≡ true → connected ≡ true)
       → (named ≡ false → connected ≡ true → l ≡ false → held (inRow row j) && takes new (inRow row j .precedence) ≡ false)
       → overlaidIn taken gone lay named new row j ≡ placedIn new create (so named connected) row j
-  unfolding overlaidIn tookIn placedIn
+  unfolding overlaidIn takenIn placedIn
   overlaid-placed connected l lay el own none =
       rw (el, eg, et) (place-same named connected l create (held (inRow new j)) (held (inRow row j)) (takes new (inRow row j .precedence)) (inRow new j) (inRow row j) own none)
       ∙ placed-by new create named connected (inRow new j) (inRow row j) (takes new (inRow row j .precedence)) _ refl refl
 
   pub lost-conflict : lostIn taken gone named row j ≡ conflictIn new create (so named true) row j
-  unfolding lostIn tookIn remainsIn conflictIn
+  unfolding lostIn takenIn remainsIn conflictIn
   lost-conflict =
       rw (eg, et)
       (and-turn (takes new (inRow row j .precedence)) (held (inRow row j)) (not (named && (create || held (inRow new j))))
@@ -178,7 +178,7 @@ row-loses new row create named taken gone et eg =
 -- ---- a bearer that is seen: its row is looked into where the bearer is touched, and a glance tells the same of any other
 -- nothing is lost in a row that has no new filter's precedence
 none-lost : (taken gone : List Bool) (named : Bool) (row : List Filter) → anyBelow (takenIn taken row) placeCount ≡ false → anyBelow (lostIn taken gone named row) placeCount ≡ false
-unfolding lostIn tookIn takenIn
+unfolding lostIn
 none-lost taken gone named row e =
     any-same (lostIn taken gone named row) (λ j. false) placeCount (λ j l. rw (any-no (takenIn taken row) placeCount j l e)) ∙ any-none (λ j. false) placeCount (λ j. refl)
 

@@ -80,6 +80,7 @@ fn drop_and_close(answer: Answer, transaction: u8, role: Role, bearer: u8) -> St
     }
 }
 
+// Transaction 0 closes nothing, and an idle bearer takes nothing along.
 fn stay(answer: Answer) -> Step
     ensures { λ r. ⌜ r ≡ stayed answer ⌝ }
 {

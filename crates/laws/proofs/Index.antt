@@ -104,10 +104,11 @@ pub tab-is : {A : Type 0} (d : A) (f : ℕ → A) (xs : List A) (n : ℕ) → le
 tab-is d f xs n e h =
     ext-getD d xs (tab f n) (e ∙ sym (tab-length f n)) (λ i l. let m : i < n = omega arith in h i m ∙ sym (tab-at f n i d m))
 
--- what stands at i after a store at k
+-- two that tell the same at each index
 pub tab-same : {A : Type 0} (d : A) (f g : ℕ → A) (n : ℕ) → ((i : ℕ) → i < n → f i ≡ g i) → tab f n ≡ tab g n
 tab-same d f g n h = tab-is d g (tab f n) n (tab-length f n) (λ i l. tab-at f n i d l ∙ h i l)
 
+-- what stands at i after a store at k
 pub set-seen : {A : Type 0} (xs : List A) (k i : ℕ) (v d : A) → (k ≡ i → i < length xs) → getD (set xs k v) i d ≡ pick (eqb k i) v (getD xs i d)
 set-seen {A} xs k i v d l = go (eqb k i) refl
   where
@@ -253,12 +254,12 @@ unfolding picks
 picks-same p q g zero h = refl
 picks-same p q g (suc n) h = rw (picks-same p q g n (λ i l. h i (omega arith)), h n (omega arith))
 
--- ---- a list in an array, zero beyond its end
 pub picks-none : (p : ℕ → Bool) (g : ℕ → ℕ) (n : ℕ) → ((i : ℕ) → i < n → p i ≡ false) → picks p g n ≡ []
 unfolding picks
 picks-none p g zero h = refl
 picks-none p g (suc n) h = rw (picks-none p g n (λ i l. h i (omega arith)), h n (omega arith))
 
+-- ---- a list in an array, zero beyond its end
 pub pad-push : (n : ℕ) (xs : List ℕ) (v : ℕ) → set (pad n xs) (length xs) v ≡ pad n (xs ++ v ∷ [])
 unfolding pad
 pad-push zero xs v = refl

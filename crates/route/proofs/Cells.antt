@@ -24,7 +24,7 @@ unfolding entriesIn decoded
 cell-put cells p bearer j l =
     map-set decoded cells p (cellOf bearer j)
     ∙ ap (set (map decoded cells) p)
-    (ap₂ entryOf (let q : cellOf bearer j / 16 ≡ bearer = omega arith in q) (let r : cellOf bearer j % 16 ≡ j = omega arith in r))
+    (ap₂ entryOf (let q : cellOf bearer j / placeCount ≡ bearer = omega arith in q) (let r : cellOf bearer j % placeCount ≡ j = omega arith in r))
 
 pub entries-long : (cells : List ℕ) → length (entriesIn cells) ≡ length cells
 unfolding entriesIn

@@ -11,6 +11,7 @@ use Rattle.laws.proofs.Says.{says-eq, says-no}
 use Rattle.filter.specs.declared.packet.Header.{Header}
 use Rattle.filter.specs.Fit.{fits}
 use Rattle.table.specs.declared.bearer.Table.{Table}
+use Rattle.filter.specs.Sizes.{placeCount}
 use Rattle.table.specs.Bearers.{indexOf, identityOf, filterAt}
 use Rattle.route.specs.declared.answer.Route.{Route}
 use Rattle.route.specs.declared.answer.Route.the-variants.{Bearer}
@@ -27,7 +28,7 @@ module _ (notes : List Bool) (otherwise : Route) (cells : List ℕ) (p : ℕ) wh
   unfolding entryNoted decoded
   cell-noted =
       let cell = getD cells p 0 in
-      let back : cellOf (cell / 16) (cell % 16) ≡ cell = omega arith in
+      let back : cellOf (cell / placeCount) (cell % placeCount) ≡ cell = omega arith in
       rw back
 
   first-of : p < length cells → drop p (entriesIn cells) ≡ decoded (getD cells p 0) ∷ drop (p + 1) (entriesIn cells)

@@ -18,7 +18,7 @@ use Rattle.filter.specs.Fit.{fits}
 use Rattle.filter.specs.Sizes.{placeCount, precedenceCount}
 use Rattle.table.specs.declared.bearer.Role.the-variants.{Idle}
 use Rattle.table.specs.declared.bearer.Table.{Table}
-use Rattle.table.specs.Bearers.{bearerCount, isIdentity, indexOf, identityOf, bearerAt, roleAt, inRow, filterAt, inConnection, connectionAt, isDefault, roleOf}
+use Rattle.table.specs.Bearers.{firstIdentity, bearerCount, isIdentity, indexOf, identityOf, bearerAt, roleAt, inRow, filterAt, inConnection, connectionAt, isDefault, roleOf}
 use Rattle.table.proofs.Meaning.{default-says, range-says}
 use Rattle.route.specs.declared.answer.Route.{Route}
 use Rattle.route.specs.declared.answer.Route.the-variants.{Bearer, Discard}
@@ -148,8 +148,8 @@ module _ (t : Table) (default : ℕ) (h : Header) where
   at-cell : (i j : ℕ) → i < bearerCount → j < placeCount → noteAt t default h (cellOf (identityOf i) j) ≡ fitsAt t default h i j
   unfolding noteAt
   at-cell i j l m =
-      let q : cellOf (identityOf i) j / 16 ≡ identityOf i = omega arith in
-      let r : cellOf (identityOf i) j % 16 ≡ j = omega arith in
+      let q : cellOf (identityOf i) j / placeCount ≡ identityOf i = omega arith in
+      let r : cellOf (identityOf i) j % placeCount ≡ j = omega arith in
       let back : indexOf (identityOf i) ≡ i = omega arith in
       let in-range : isIdentity (identityOf i) ≡ true = range-says (identityOf i) .from (omega arith, omega arith) in
       rw (q, r, in-range, back)
@@ -171,7 +171,7 @@ module _ (t : Table) (default : ℕ) (h : Header) where
   unfolding noteAt
   first-pass =
       pass 80 0 noneNoted (omega arith)
-      (λ k m. let low : (0 + k) / 16 < 5 = omega arith in rw (says-no (range-says ((0 + k) / 16)) (λ r. let high = r .0 in omega arith)))
+      (λ k m. let low : (0 + k) / placeCount < firstIdentity = omega arith in rw (says-no (range-says ((0 + k) / placeCount)) (λ r. let high = r .0 in omega arith)))
       (stored-start (noteAt t default h) noneNoted)
 
   module _ (i : ℕ) (l : i < bearerCount) where

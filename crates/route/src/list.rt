@@ -34,7 +34,7 @@ pub(crate) fn is_uplink(filter: Filter) -> bool
 }
 
 // An entry as a number: a slice of numbers is lent without a copy, and a note of the entry stands at its number. 0 names nothing.
-const PER_BEARER: u8 = 16;
+const PER_BEARER: u8 = PLACES as u8;
 
 // The numbers that an entry can have.
 pub(crate) const CELLS: usize = 256;

@@ -36,15 +36,15 @@ unfoldable pub goneIn : Element → ℕ → Bool
 goneIn e j = clears (e .answer) || held (inRow (e .filters) j) || getD (e .marks) j false
 
 -- ---- one row; `taken` tells of each precedence whether a new filter has it, `gone` of each place of the named bearer whether it is written anew
-module _ (taken gone : List Bool) (named : Bool) (row : List Filter) where
-  unfoldable pub tookIn : ℕ → Bool
-  tookIn j = getD taken (inRow row j .precedence) false
+unfoldable pub takenIn : List Bool → List Filter → ℕ → Bool
+takenIn taken row j = getD taken (inRow row j .precedence) false
 
+module _ (taken gone : List Bool) (named : Bool) (row : List Filter) where
   unfoldable pub remainsIn : ℕ → Bool
   remainsIn j = held (inRow row j) && not (named && getD gone j false)
 
   unfoldable pub lostIn : ℕ → Bool
-  lostIn j = tookIn j && remainsIn j
+  lostIn j = takenIn taken row j && remainsIn j
 
   -- a filter that remains has a new filter's precedence; the bearer is named and holds filters, of which none remains
   unfoldable pub seenRow : SeenRow
@@ -58,7 +58,7 @@ module _ (taken gone : List Bool) (named : Bool) (row : List Filter) where
 unfoldable pub overlaidIn : List Bool → List Bool → Bool → Bool → List Filter → List Filter → ℕ → Filter
 overlaidIn taken gone lay named new row j =
     pick ((lay && named) && held (inRow new j)) (inRow new j)
-    (pick (((lay && named) && getD gone j false) || ((lay && tookIn taken gone named row j) && held (inRow row j))) emptyFilter (inRow row j))
+    (pick (((lay && named) && getD gone j false) || ((lay && takenIn taken row j) && held (inRow row j))) emptyFilter (inRow row j))
 
 -- ---- one bearer: role and transaction, and nothing of the row
 unfoldable pub glancedOf : Bearer → Seen
@@ -73,9 +73,6 @@ lookedInto taken gone named b =
       loses = seenRow taken gone named (b .row) .loses;
       empties = seenRow taken gone named (b .row) .empties;
     }
-
-unfoldable pub takenIn : List Bool → List Filter → ℕ → Bool
-takenIn taken row j = getD taken (inRow row j .precedence) false
 
 -- its row is looked into: it is active, and it is the named one or has a filter with a new filter's precedence
 unfoldable pub touched : List Bool → Bool → Bearer → Bool

@@ -24,7 +24,7 @@ fitsAt t default h i j = inConnection default i (roleAt t i) && (isUplink (filte
 
 -- .. at the number of its entry
 unfoldable pub noteAt : Table → ℕ → Header → ℕ → Bool
-noteAt t default h cell = isIdentity (cell / 16) && fitsAt t default h (indexOf (cell / 16)) (cell % 16)
+noteAt t default h cell = isIdentity (cell / placeCount) && fitsAt t default h (indexOf (cell / placeCount)) (cell % placeCount)
 
 unfoldable pub notesOf : Table → ℕ → Header → List Bool
 notesOf t default h = tab (noteAt t default h) cellCount

@@ -32,13 +32,13 @@ walked t default = walk (putBearer t default) emptyList bearerCount
 
 -- an entry as a number: its bearer's identity, then its place; and these are the entries of a list of numbers
 abbrev pub cellOf : ℕ → ℕ → ℕ
-cellOf bearer place = bearer * 16 + place
+cellOf bearer place = bearer * placeCount + place
 
 abbrev pub cellCount : ℕ
 cellCount = 256
 
 unfoldable pub decoded : ℕ → Entry
-decoded cell = entryOf (cell / 16) (cell % 16)
+decoded cell = entryOf (cell / placeCount) (cell % placeCount)
 
 unfoldable pub entriesIn : List ℕ → List Entry
 entriesIn cells = map decoded cells
