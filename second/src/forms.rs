@@ -1,7 +1,11 @@
 //! The forms that a reply can take, and how often each stands in an output.
 
+use crate::lines::{Line, LONGEST_LINE};
+use crate::session::Session;
+use crate::text::Text;
+
 /// Every form that the bench language has, numbers and lists left out but for those that are the point of the reply.
-pub const FORMS: [&str; 57] = [
+pub const FORMS: [&str; 59] = [
     "accept",
     "accept follow-up",
     "reject 41",
@@ -58,6 +62,8 @@ pub const FORMS: [&str; 57] = [
     "  filter local",
     "  filter remote",
     "  filter other",
+    "echo on",
+    "echo off",
     "bad line",
 ];
 
@@ -94,9 +100,22 @@ fn filter_form(first_component: &str) -> String {
     format!("  filter {name}")
 }
 
-/// How often each form stands in an output, and what is wrong: lines of no form, and forms too rare.
-pub fn count(output: &str) -> (Vec<(&'static str, usize)>, Vec<String>) {
-    let forms: Vec<String> = output.lines().map(form).collect();
+/// All that a script gives, and the replies in it alone. An echoed line may read like a reply, so the two are told apart as they are made.
+pub fn played(mut script: &[u8]) -> (Text, Text) {
+    let (mut session, mut line) = (Session::default(), Line::new(LONGEST_LINE));
+    let (mut output, mut replies) = (Text::new(), Text::new());
+    while line.next(&mut script).expect("a slice is read") {
+        session.write_echo(&line.octets, line.is_too_long(), &mut output);
+        let start = output.len();
+        session.do_line(line.number, &line.octets, line.is_too_long(), &mut output);
+        replies.extend_from_slice(&output[start..]);
+    }
+    (output, replies)
+}
+
+/// How often each form stands in replies, and what is wrong: lines of no form, and forms too rare.
+pub fn count(replies: &[u8]) -> (Vec<(&'static str, usize)>, Vec<String>) {
+    let forms: Vec<String> = String::from_utf8_lossy(replies).lines().map(form).collect();
     let times = |wanted: &str| forms.iter().filter(|form| *form == wanted).count();
     let counts: Vec<(&str, usize)> = FORMS.iter().map(|wanted| (*wanted, times(wanted))).collect();
     let unknown = forms.iter().filter(|form| !FORMS.contains(&form.as_str()));
@@ -111,23 +130,22 @@ pub fn count(output: &str) -> (Vec<(&'static str, usize)>, Vec<String>) {
 mod tests {
     use super::*;
     use crate::generator::script;
-    use crate::lines::{Line, LONGEST_LINE};
-    use crate::session::Session;
-
-    fn output(input: &[u8]) -> String {
-        let (mut session, mut line, mut rest) = (Session::default(), Line::new(LONGEST_LINE), input);
-        let mut out = Vec::new();
-        while line.next(&mut rest).unwrap() {
-            session.line(line.number, &line.octets, line.is_too_long(), &mut out);
-        }
-        String::from_utf8(out).unwrap()
-    }
 
     #[test]
     fn generated_scripts_show_every_form_often_enough() {
         for seed in [0, 1, 2, 3, 4, 20260401] {
-            let (_, wrong) = count(&output(&script(seed, 20_000)));
+            let (_, wrong) = count(&played(&script(seed, 20_000)).1);
             assert!(wrong.is_empty(), "seed {seed}:\n{}", wrong.join("\n"));
         }
+    }
+
+    #[test]
+    fn echoed_lines_are_no_replies() {
+        let (output, replies) = played(b"echo on\nwell formed\ncheck\necho off\n\nshow\n");
+        assert_eq!(
+            output,
+            b"echo on\nwell formed\nbad line 2\ncheck\nwell formed\necho off\necho off\nend\n"
+        );
+        assert_eq!(replies, b"echo on\nbad line 2\nwell formed\necho off\nend\n");
     }
 }

@@ -1,7 +1,9 @@
 //! `second`: the bench language on standard input, replies on standard output.
+//! `second --echo`: the same with echo on from the start.
 //! `second elements`: a line of hexadecimal for each element, the number that the reader gives for each.
 
-use std::env::args;
+use std::env::args_os;
+use std::ffi::OsString;
 use std::io::{self, stdin, stdout, BufReader, Write};
 use std::process::ExitCode;
 
@@ -13,13 +15,14 @@ use second::text::{self, Text};
 const FULL: usize = 1 << 16;
 
 fn main() -> ExitCode {
-    let words: Vec<String> = args().skip(1).collect();
-    let words: Vec<&str> = words.iter().map(String::as_str).collect();
+    let words: Vec<OsString> = args_os().skip(1).collect();
+    let words: Vec<Option<&str>> = words.iter().map(|word| word.to_str()).collect();
     let done = match words.as_slice() {
-        [] => bench(),
-        ["elements"] => elements(),
+        [] => bench(false),
+        [Some("--echo")] => bench(true),
+        [Some("elements")] => elements(),
         _ => {
-            eprintln!("usage: second [elements]");
+            eprintln!("usage: second [--echo | elements]");
             return ExitCode::from(2);
         }
     };
@@ -32,8 +35,9 @@ fn main() -> ExitCode {
     }
 }
 
-fn bench() -> io::Result<()> {
+fn bench(echo: bool) -> io::Result<()> {
     let mut session = Session::default();
+    session.echo = echo;
     each_line(LONGEST_LINE, |line, out| {
         session.line(line.number, &line.octets, line.is_too_long(), out);
     })

@@ -7,6 +7,7 @@ use crate::table::Role;
 pub const LONGEST_HEX: usize = 1024;
 pub const LARGEST_BUFFER: usize = 512;
 const MOST_DIGITS: usize = 10;
+const MOST_DOTTED_DIGITS: usize = 3;
 const MOST_REPEATS: u32 = 1_000_000;
 
 /// The octets of a HEX word.
@@ -42,6 +43,7 @@ pub enum Call {
     Force { bearer: u8, role: Role, transaction: u8 },
     Place { bearer: u8, identifier: u8, filter: Filter },
     Show,
+    Echo { on: bool },
 }
 
 /// What a line is.
@@ -112,6 +114,14 @@ impl<'a> Words<'a> {
     fn octets(&mut self) -> Option<Octets> {
         octets(self.next()?)
     }
+
+    fn address(&mut self) -> Option<[u8; 16]> {
+        let word = self.next()?;
+        match octets(word) {
+            Some(octets) => octets.slice().try_into().ok(),
+            None => dotted(word),
+        }
+    }
 }
 
 fn number(word: &[u8]) -> Option<u64> {
@@ -136,6 +146,22 @@ fn octets(word: &[u8]) -> Option<Octets> {
     }
     found.length = word.len() / 2;
     Some(found)
+}
+
+/// `A.B.C.D`: the first four octets of an address, and zero for the others.
+fn dotted(word: &[u8]) -> Option<[u8; 16]> {
+    let mut address = [0; 16];
+    let mut parts = word.split(|octet| *octet == b'.');
+    for octet in &mut address[..4] {
+        *octet = part(parts.next()?)?;
+    }
+    parts.next().is_none().then_some(address)
+}
+
+/// A number of a dotted address, which has fewer digits than others.
+fn part(word: &[u8]) -> Option<u8> {
+    let right = (1..=MOST_DOTTED_DIGITS).contains(&word.len());
+    number(word).filter(|_| right)?.try_into().ok()
 }
 
 fn repeated(mut words: Words) -> Option<(u32, Call)> {
@@ -164,6 +190,7 @@ fn call(words: &mut Words) -> Option<Call> {
             Some(Call::Place { bearer, identifier, filter: filter(words)? })
         }
         b"show" => Some(Call::Show),
+        b"echo" => Some(Call::Echo { on: switch(words.next()?)? }),
         name => table_call(name, words),
     }
 }
@@ -192,7 +219,7 @@ fn table_call(name: &[u8], words: &mut Words) -> Option<Call> {
 fn header(words: &mut Words) -> Option<Header> {
     Some(Header {
         version: words.octet()?,
-        address: words.octets()?.slice().try_into().ok()?,
+        address: words.address()?,
         protocol: words.octet()?,
         local_port: words.port()?,
         remote_port: words.port()?,
@@ -210,6 +237,14 @@ fn kind(word: &[u8]) -> Option<Kind> {
         b"delete-filters" => Some(Kind::DeleteFilters),
         b"delete-tft" => Some(Kind::DeleteTft),
         b"none" => Some(Kind::None),
+        _ => None,
+    }
+}
+
+fn switch(word: &[u8]) -> Option<bool> {
+    match word {
+        b"on" => Some(true),
+        b"off" => Some(false),
         _ => None,
     }
 }

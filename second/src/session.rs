@@ -13,6 +13,7 @@ use crate::text::{self, Text};
 pub struct Session {
     pub table: Table,
     pub composed: Option<Operation>,
+    pub echo: bool,
     reply: Text,
 }
 
@@ -20,8 +21,22 @@ pub struct Session {
 const BEFORE: u8 = 0xEE;
 
 impl Session {
-    /// Does what a line asks for and appends the reply.
+    /// Appends the line where echo is on, does what it asks for and appends the reply.
     pub fn line(&mut self, number: u64, line: &[u8], too_long: bool, out: &mut Text) {
+        self.write_echo(line, too_long, out);
+        self.do_line(number, line, too_long, out);
+    }
+
+    /// The LF is written also where the last line came without one, so that its reply is a line by itself.
+    pub fn write_echo(&self, line: &[u8], too_long: bool, out: &mut Text) {
+        if self.echo && !too_long {
+            out.extend_from_slice(line);
+            out.push(b'\n');
+        }
+    }
+
+    /// Does what a line asks for and appends the reply alone.
+    pub fn do_line(&mut self, number: u64, line: &[u8], too_long: bool, out: &mut Text) {
         let asked = if too_long { Asked::Bad } else { asked(line) };
         let done = match asked {
             Asked::Nothing => Some(()),
@@ -62,9 +77,15 @@ impl Session {
             }
             Call::Force { .. } | Call::Place { .. } => self.by_hand(call, out),
             Call::Show => text::table(out, &self.table),
+            Call::Echo { on } => self.switch_echo(*on, out),
             _ => text::answer(out, &self.answer(call)?),
         }
         Some(())
+    }
+
+    fn switch_echo(&mut self, on: bool, out: &mut Text) {
+        self.echo = on;
+        text::words(out, if on { "echo on\n" } else { "echo off\n" });
     }
 
     fn answer(&mut self, call: &Call) -> Option<Answer> {

@@ -42,6 +42,14 @@ pub fn hexadecimal(text: &mut Text, octets: &[u8]) {
     }
 }
 
+/// Each octet in decimal, as people write an IPv4 address.
+fn dotted(text: &mut Text, octets: &[u8]) {
+    for (position, octet) in octets.iter().enumerate() {
+        words(text, if position == 0 { "" } else { "." });
+        number(text, *octet);
+    }
+}
+
 pub fn answer(text: &mut Text, answer: &Answer) {
     match *answer {
         Answer::Refused(number) => line(text, "refused ", number),
@@ -124,8 +132,8 @@ pub fn filter(text: &mut Text, identifier: u8, filter: &Filter) {
 
 fn component(text: &mut Text, component: &Component) {
     match *component {
-        Component::Remote4 { address, mask } => masked(text, " remote4 ", &address, &mask),
-        Component::Remote6 { address, mask } => masked(text, " remote6 ", &address, &mask),
+        Component::Remote4 { address, mask } => masked(text, " remote4 ", dotted, &address, &mask),
+        Component::Remote6 { address, mask } => masked(text, " remote6 ", hexadecimal, &address, &mask),
         Component::Protocol(protocol) => one(text, " protocol ", protocol),
         Component::LocalPort(port) => one(text, " local-port ", port),
         Component::LocalRange { low, high } => two(text, " local-range ", low, "-", high),
@@ -137,11 +145,11 @@ fn component(text: &mut Text, component: &Component) {
     }
 }
 
-fn masked(text: &mut Text, name: &str, address: &[u8], mask: &[u8]) {
+fn masked(text: &mut Text, name: &str, write: fn(&mut Text, &[u8]), address: &[u8], mask: &[u8]) {
     words(text, name);
-    hexadecimal(text, address);
+    write(text, address);
     words(text, "/");
-    hexadecimal(text, mask);
+    write(text, mask);
 }
 
 fn one(text: &mut Text, name: &str, value: impl Into<u64>) {

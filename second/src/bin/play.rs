@@ -119,13 +119,20 @@ fn fresh_seed() -> u64 {
     Random::new(now ^ u64::from(id()) << 40).number()
 }
 
-/// Mostly scripts; some damaged; some no scripts at all.
+/// Mostly scripts; some damaged; some that end with echo on and in a line without LF; some no scripts at all.
 fn input(seed: u64) -> Vec<u8> {
     match seed % 10 {
         0 => rubbish(seed),
         1 => damaged(seed, script(seed, LINES / 4)),
+        2 => [script(seed, LINES / 4), unended(seed)].concat(),
         _ => script(seed, LINES),
     }
+}
+
+fn unended(seed: u64) -> Vec<u8> {
+    let lines =
+        ["check", "check\r", "", "   ", "\r", "# the end", "# the end\r", "chck", "echo off", "echo off\r"];
+    format!("echo on\n{}", Random::new(seed).pick(&lines)).into_bytes()
 }
 
 fn report(pair: &Pair, script: &[u8]) {
@@ -213,9 +220,8 @@ fn simpler_lines(line: &[u8]) -> Vec<Vec<u8>> {
     let words: Lines = line.split(|octet| *octet == b' ').map(<[u8]>::to_vec).collect();
     let mut simpler = vec![line[..line.len().saturating_sub(1)].to_vec()];
     for at in 0..words.len() {
-        let mut fewer = words.clone();
-        fewer.remove(at);
-        simpler.push(fewer.join(&b' '));
+        // Two at once where neither goes alone: `repeat N`, `TYPE HEX`.
+        simpler.extend([1, 2].map(|count| without_words(&words, at, count)));
         for word in simpler_words(&words[at]) {
             let mut changed = words.clone();
             changed[at] = word;
@@ -226,13 +232,19 @@ fn simpler_lines(line: &[u8]) -> Vec<Vec<u8>> {
     simpler.into_iter().filter(smaller).collect()
 }
 
-/// A small number, a simpler element, or the word without a half, without two digits, or with two digits 0.
+fn without_words(words: &Lines, at: usize, count: usize) -> Vec<u8> {
+    let after = (at + count).min(words.len());
+    [&words[..at], &words[after..]].concat().join(&b' ')
+}
+
+/// A small number, a simpler element or address, or the word without a half, without two digits, or with two digits 0.
 fn simpler_words(word: &[u8]) -> Lines {
     let mut simpler: Lines = [b"0", b"1", b"5", b"6", b"-"].iter().map(|word| word.to_vec()).collect();
     if word.len() < 2 {
         return simpler;
     }
     simpler.extend(simpler_elements(word));
+    simpler.extend(simpler_addresses(word));
     simpler.push(word[..word.len() / 4 * 2].to_vec());
     for at in (0..word.len() - 1).step_by(2) {
         simpler.push([&word[..at], &word[at + 2..]].concat());
@@ -260,6 +272,15 @@ fn simpler_elements(word: &[u8]) -> Lines {
         }
     }
     simpler.iter().filter_map(written).collect()
+}
+
+/// Where the word is dotted: the same with a number less, or with one 0.
+fn simpler_addresses(word: &[u8]) -> Lines {
+    let parts: Vec<&[u8]> = word.split(|octet| *octet == b'.').collect();
+    let dotted = if parts.len() > 1 { parts.len() } else { 0 };
+    let with_zero = |at: usize| [&parts[..at], &[&b"0"[..]], &parts[at + 1..]].concat().join(&b'.');
+    let without = |at: usize| [&parts[..at], &parts[at + 1..]].concat().join(&b'.');
+    (0..dotted).flat_map(|at| [without(at), with_zero(at)]).collect()
 }
 
 fn with_fewer_components(filter: &Filter) -> Vec<Filter> {

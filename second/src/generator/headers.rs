@@ -1,14 +1,15 @@
 //! Headers that fit a filter, or miss it by little.
 
 use super::elements::hex;
+use super::rubbish::bad_address;
 use crate::filter::{Component, Filter, Header};
 use crate::random::Random;
 
-pub fn words(header: &Header) -> String {
+pub fn words(random: &mut Random, header: &Header) -> String {
     format!(
         "{} {} {} {} {} {} {} {}",
         header.version,
-        hex(&header.address),
+        address(random, header),
         header.protocol,
         header.local_port,
         header.remote_port,
@@ -16,6 +17,28 @@ pub fn words(header: &Header) -> String {
         header.class,
         header.label
     )
+}
+
+/// Often dotted for version 4, where the first four octets say it all, and now and then for the others.
+fn address(random: &mut Random, header: &Header) -> String {
+    let dotted_in = if header.version == 4 { 2 } else { 5 };
+    if random.one_in(40) {
+        bad_address(random)
+    } else if random.one_in(dotted_in) {
+        dotted(random, &header.address[..4])
+    } else {
+        hex(&header.address)
+    }
+}
+
+/// Each number in one to three digits, some with leading zeros.
+fn dotted(random: &mut Random, octets: &[u8]) -> String {
+    let part = |octet: &u8| match random.below(6) {
+        0 => format!("{octet:02}"),
+        1 => format!("{octet:03}"),
+        _ => octet.to_string(),
+    };
+    octets.iter().map(part).collect::<Vec<_>>().join(".")
 }
 
 pub fn close_to(random: &mut Random, filter: &Filter) -> Header {

@@ -1,5 +1,6 @@
 //! Scripts of the bench language that build real tables and go wrong in many small ways.
 
+mod echo;
 mod elements;
 mod headers;
 mod rubbish;
@@ -45,7 +46,10 @@ impl Generator {
     }
 
     fn action(&mut self) {
-        match self.random.weighted(&[64, 14, 5, 2, 3, 4, 2, 1]) {
+        if self.session.echo && self.random.one_in(20) {
+            self.echo("off");
+        }
+        match self.random.weighted(&[64, 14, 5, 2, 3, 4, 2, 1, 1]) {
             0 => self.table_call(),
             1 => self.element_line(),
             2 => self.compose(),
@@ -53,6 +57,7 @@ impl Generator {
             4 => self.repeated(),
             5 => self.bad_line(),
             6 => self.passed_over(),
+            7 => self.echo_stretch(),
             _ => self.look_or_reset(),
         }
         if !self.session.table.is_well_formed() {
@@ -78,7 +83,9 @@ impl Generator {
         self.replies.clear();
         self.session.line(self.lines, octets, octets.len() > crate::lines::LONGEST_LINE, &mut self.replies);
         self.script.extend_from_slice(octets);
-        let ending: &[u8] = if self.random.one_in(40) { b"\r\n" } else { b"\n" };
+        // A CR is more to be looked for where the line is written.
+        let crs_in = if self.session.echo { 5 } else { 40 };
+        let ending: &[u8] = if self.random.one_in(crs_in) { b"\r\n" } else { b"\n" };
         self.script.extend_from_slice(ending);
     }
 
@@ -221,7 +228,8 @@ impl Generator {
             of_connection.flat_map(|(_, b)| b.row).filter(|filter| !filter.is_nothing()).collect();
         let close_to = self.random.any(&filters).unwrap_or_default();
         let header = headers::close_to(&mut self.random, &close_to);
-        self.say(&format!("route {default} {}", headers::words(&header)));
+        let words = headers::words(&mut self.random, &header);
+        self.say(&format!("route {default} {words}"));
     }
 
     fn kind(&mut self) -> Kind {

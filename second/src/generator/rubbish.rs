@@ -3,7 +3,7 @@
 use crate::lines::LONGEST_LINE;
 use crate::random::Random;
 
-const LINES: [&str; 28] = [
+const LINES: &[&str] = &[
     "default 5",
     "dedicated 6 5 0 21310A0530115013C4",
     "modify 5 0 C0",
@@ -32,13 +32,93 @@ const LINES: [&str; 28] = [
     "filter 16 10 3 30 11",
     "place 4 0 0 0",
     "emit 513",
+    "route 5 4 192.0.2.1 17 1000 5060 0 0 0",
+    "route 5 6 032.001.13.184 17 1000 5060 0 0 0",
+    "element 192.0.2.1",
+    "rewrite 192.0.2.1 20",
+    "modify 5 0 192.0.2.1",
+    "place 5 0 0 0 10 192.0.2.1",
+    "filter 1 10 3 10 192.0.2.1/255.255.255.0",
+    "echo on",
+    "echo off",
+    "repeat 2 echo on",
+    "repeat 3 echo off",
 ];
+
+const BAD_ECHOES: &[&str] = &[
+    "echo",
+    "echo on on",
+    "echo off off",
+    "echo on off",
+    "echo off on",
+    "echo on # now",
+    "echo # on",
+    "echo On",
+    "echo OFF",
+    "Echo off",
+    "echoon",
+    "echo-off",
+    "echo 0",
+    "echo 1",
+    "echo -",
+    "echo o",
+    "echo of",
+    "echo offf",
+    "on",
+    "off",
+    "repeat 2 echo",
+    "repeat 0 echo off",
+    "repeat 1000001 echo on",
+    "repeat echo on",
+    "repeat 2 repeat 2 echo off",
+];
+
+pub fn bad_echo(random: &mut Random) -> &'static str {
+    random.pick(BAD_ECHOES)
+}
+
+/// Dotted, but for something.
+const BAD_ADDRESSES: &[&str] = &[
+    "256.0.2.1",
+    "192.0.2.256",
+    "192.999.2.1",
+    "0192.0.2.1",
+    "192.0.2.0001",
+    "192.0.0000000002.1",
+    "192.0.2",
+    "192",
+    "3221225985",
+    "192.0.2.1.5",
+    "0.0.0.0.0.0.0.0.0.0.0.0.0.0.0.0",
+    "192..2.1",
+    "192.0..1",
+    ".192.0.2.1",
+    "192.0.2.",
+    "192.0.2.1.",
+    "...",
+    ".",
+    "C0.0.2.1",
+    "192.0.2.a",
+    "0x1.0.2.1",
+    "+192.0.2.1",
+    "192.-0.2.1",
+    "192.0.2.1/32",
+    "192.0.2.1:5060",
+    "192,0,2,1",
+    "192. 0.2.1",
+    "192.0.2.1000000000000000000000000",
+    "C0000201.00000000000000000000000",
+];
+
+pub fn bad_address(random: &mut Random) -> String {
+    random.pick(BAD_ADDRESSES).to_string()
+}
 
 /// A line of the language with something wrong about it, or nothing of the kind.
 pub fn bad_line(random: &mut Random) -> Vec<u8> {
-    let line = random.pick(&LINES);
+    let line = random.pick(LINES);
     match random.below(12) {
-        0 => (0..random.below(30)).map(|_| not_lf(random)).collect(),
+        0 => no_text(random),
         1 if random.one_in(3) => long_line(random),
         2 => with_word(random, line, "0"),
         3 => with_word(random, line, "-"),
@@ -62,7 +142,7 @@ fn with_octet_changed(random: &mut Random, line: &[u8]) -> Vec<u8> {
     let mut octets = line.to_vec();
     let at = random.below(octets.len());
     let any = not_lf(random);
-    octets[at] = random.pick(&[b' ', b'\t', b'0', b'9', b'x', b'#', b'\r', 0, any]);
+    octets[at] = random.pick(&[b' ', b'\t', b'0', b'9', b'x', b'#', b'.', b'\r', 0, any]);
     octets
 }
 
@@ -78,27 +158,35 @@ fn without_word(random: &mut Random, line: &str) -> Vec<u8> {
     words.join(" ").into_bytes()
 }
 
-/// About as long as a line may be: a call, a comment or nothing, before or after many spaces.
-fn long_line(random: &mut Random) -> Vec<u8> {
-    let length = LONGEST_LINE - 2 + random.below(5);
-    let text = random.pick(&["check", "# comment", "", "element C0", "show"]).as_bytes();
-    let spaces = vec![b' '; length - text.len()];
+/// About as long as a line may be: a call, a comment or nothing, before or after many spaces, or seldom many of another octet.
+pub fn long_line(random: &mut Random) -> Vec<u8> {
+    let length = LONGEST_LINE - 2 + random.pick(&[0, 1, 2, 2, 3, 3, 4]);
+    let texts = ["check", "# comment", "", "element C0", "show", "echo on", "echo off", "repeat 2 check"];
+    let text = random.pick(&texts).as_bytes();
+    let filling = vec![random.pick(b"    x#\r\xFF"); length - text.len()];
     if random.one_in(2) {
-        [&spaces, text].concat()
+        [&filling, text].concat()
     } else {
-        [text, &spaces].concat()
+        [text, &filling].concat()
     }
 }
 
 pub fn passed_over(random: &mut Random) -> Vec<u8> {
-    let line: &[u8] = match random.below(5) {
+    let line: &[u8] = match random.below(8) {
         0 => b"",
         1 => b"   ",
         2 => b"# the table so far",
         3 => b"  #modify 5 0 C0",
+        4 => b"# accept 5  ",
+        5 => return vec![b' '; random.below(12)],
+        6 => return [b"#".to_vec(), no_text(random)].concat(),
         _ => b"#",
     };
     line.to_vec()
+}
+
+fn no_text(random: &mut Random) -> Vec<u8> {
+    (0..random.below(30)).map(|_| not_lf(random)).collect()
 }
 
 /// The same line, written as few would: more spaces, leading zeros, small letters, or one octet changed.
@@ -121,7 +209,7 @@ pub fn damaged(seed: u64, mut script: Vec<u8>) -> Vec<u8> {
         let at = random.below(script.len());
         match random.below(4) {
             0 => script[at] = random.octet(),
-            1 => script[at] = random.pick(b" \n\r\t#0159-"),
+            1 => script[at] = random.pick(b" \n\r\t#0159-."),
             2 => script.insert(at, random.pick(b" \n\r0")),
             _ => {
                 script.remove(at);
@@ -131,10 +219,10 @@ pub fn damaged(seed: u64, mut script: Vec<u8>) -> Vec<u8> {
     script
 }
 
-/// Octets of any kind, very long lines, words of the language, with or without an LF at the end.
+/// Octets of any kind, very long lines, words of the language, with or without an LF at the end; half of it with echo on from the start.
 pub fn rubbish(seed: u64) -> Vec<u8> {
     let mut random = Random::new(seed);
-    let mut octets = Vec::new();
+    let mut octets = if random.one_in(2) { b"echo on\n".to_vec() } else { Vec::new() };
     for _ in 0..random.below(60) {
         octets.extend(rubbish_line(&mut random));
         octets.extend(random.pick::<&[u8]>(&[b"\n", b"\n", b"\r\n", b"\r\r\n", b"\n\r\n", b"\r", b""]));
@@ -143,13 +231,14 @@ pub fn rubbish(seed: u64) -> Vec<u8> {
 }
 
 fn rubbish_line(random: &mut Random) -> Vec<u8> {
-    match random.below(8) {
+    match random.below(9) {
         0 => (0..random.below(300)).map(|_| random.octet()).collect(),
         1 => long_line(random),
         2 => vec![random.pick(b" #0C\0\xFF\r"); random.below(20_000)],
         3 => passed_over(random),
         4 => [b"element ".to_vec(), vec![b'A'; random.below(1030)]].concat(),
         5 => bad_line(random),
-        _ => random.pick(&LINES).as_bytes().to_vec(),
+        6 => bad_echo(random).as_bytes().to_vec(),
+        _ => random.pick(LINES).as_bytes().to_vec(),
     }
 }
