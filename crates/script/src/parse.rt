@@ -112,6 +112,17 @@ fn bad() -> Command {
     Command::Ask(Question::Bad)
 }
 
+// The next word, read as its place in a list of words.
+fn listed(words: &[u8], line: &[u8], s: Scan) -> Scan {
+    let from = skip_spaces(line, s.at);
+    let to = word_end(line, from);
+    Scan {
+        at: to,
+        ok: s.ok,
+        value: place_of(words, part(line, from, to)) as u64,
+    }
+}
+
 // The last three octets that were read.
 struct Numbers {
     first: u8,
@@ -268,10 +279,9 @@ fn parse_rewrite(line: &[u8], value: Scan) -> Command {
 }
 
 fn parse_compose(line: &[u8], s: Scan) -> Command {
-    let from = skip_spaces(line, s.at);
-    let to = word_end(line, from);
-    let kind = place_of(&KINDS, part(line, from, to));
-    if !(whole(line, scan_from(to)) & is_kind(kind)) {
+    let word = listed(&KINDS, line, s);
+    let kind = size(word.value);
+    if !(whole(line, word) & is_kind(kind)) {
         return bad();
     }
     Command::Compose(Part::Kind(kind))
@@ -331,14 +341,8 @@ fn forced(line: &[u8], identity: u8, role: RoleWord, s: Scan) -> Command {
 fn parse_force(line: &[u8], s: Scan) -> Command {
     let bearer = number(line, s, OCTET);
     let identity = octet(bearer.value);
-    let from = skip_spaces(line, bearer.at);
-    let to = word_end(line, from);
-    let role = place_of(&ROLES, part(line, from, to));
-    let after = Scan {
-        at: to,
-        ok: bearer.ok,
-        value: 0,
-    };
+    let after = listed(&ROLES, line, bearer);
+    let role = size(after.value);
     match role {
         IDLE_ROLE => forced(line, identity, RoleWord::Idle, after),
         DEFAULT_ROLE => forced(line, identity, RoleWord::Default, after),
@@ -386,18 +390,17 @@ fn words_before(word: usize) -> usize {
 
 // The line from `at` on. Its HEX is read first, into `octets`, so that nothing else is lent them.
 fn parse(line: &[u8], at: usize, composing: bool, octets: &mut [u8]) -> Command {
-    let from = skip_spaces(line, at);
-    let to = word_end(line, from);
-    let word = place_of(&WORDS, part(line, from, to));
+    let first = listed(&WORDS, line, scan_from(at));
+    let word = size(first.value);
     let value = hex(
         line,
-        scan_from(skip_words(line, to, words_before(word))),
+        scan_from(skip_words(line, first.at, words_before(word))),
         octets,
     );
     if wants_compose(word) & !composing {
         return bad();
     }
-    parse_word(word, line, scan_from(to), value)
+    parse_word(word, line, first, value)
 }
 
 // Nothing but spaces, or a comment: spaces before its `#` are ignored as at any end of a line.
