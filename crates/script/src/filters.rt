@@ -1,7 +1,7 @@
 // A filter's line, and a row's lines.
+use crate::dotted::put_dotted;
 use crate::text::put;
 use crate::text::put_end;
-use crate::text::put_hex_32;
 use crate::text::put_hex_64;
 use crate::text::put_named;
 use crate::text::put_number;
@@ -25,9 +25,9 @@ fn put_ipv6(out: &mut [u8], at: usize, address: Address) -> usize {
 
 fn put_ipv4_remote(out: &mut [u8], at: usize, address: u32, mask: u32) -> usize {
     let o = put_text(out, at, b" remote4 ");
-    let o = put_hex_32(out, o, address as u64);
+    let o = put_dotted(out, o, address);
     let o = put(out, o, b'/');
-    put_hex_32(out, o, mask as u64)
+    put_dotted(out, o, mask)
 }
 
 fn put_ipv6_remote(out: &mut [u8], at: usize, address: Address, mask: Address) -> usize {

@@ -1,4 +1,5 @@
 // Lines out of the input, whatever the reads cut it into.
+use crate::scan::find;
 use crate::scan::part;
 use libc::STDIN_FILENO;
 
@@ -12,6 +13,8 @@ pub(crate) struct Input {
     ended: bool,
 }
 
+const LF: u8 = b'\n';
+
 pub(crate) fn start_input() -> Input {
     Input {
         from: 0,
@@ -20,18 +23,6 @@ pub(crate) fn start_input() -> Input {
         found: false,
         ended: false,
     }
-}
-
-// The first LF from `at` on, or the end.
-fn find_end(chunk: &[u8], at: usize) -> usize {
-    let mut i = at;
-    while i < chunk.len() {
-        if chunk[i] == b'\n' {
-            return i;
-        }
-        i += 1;
-    }
-    i
 }
 
 fn keep_octet(line: &mut [u8], held: usize, octet: u8) -> usize {
@@ -69,7 +60,7 @@ fn without_cr(line: &[u8], held: usize) -> usize {
 // The rest of what was read, up to the end of the line where that is in it.
 fn take_line(input: Input, chunk: &[u8], line: &mut [u8]) -> Input {
     let from = input.from;
-    let end = find_end(chunk, from);
+    let end = find(chunk, from, LF);
     let mut next = input;
     next.held = keep(line, input.held, part(chunk, from, end));
     if end < chunk.len() {

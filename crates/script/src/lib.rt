@@ -2,6 +2,7 @@
 // The functions have no contract: each is proved to end without a fault, and nothing else is claimed.
 mod build;
 pub mod command;
+mod dotted;
 pub mod elements;
 pub mod filters;
 mod input;

@@ -9,9 +9,11 @@ use crate::command::Part;
 use crate::command::Plan;
 use crate::command::Question;
 use crate::command::RoleWord;
+use crate::dotted::dotted;
 use crate::kinds::KINDS;
 use crate::kinds::is_kind;
 use crate::scan::MOST_OCTETS;
+use crate::scan::NO_NUMBER;
 use crate::scan::Scan;
 use crate::scan::bad_scan;
 use crate::scan::half;
@@ -203,8 +205,8 @@ fn parse_valued(word: usize, line: &[u8], s: Scan, value: Scan) -> Command {
     Command::Call(call_of(word, n, size(value.value)))
 }
 
-// The next word as the sixteen octets of an address.
-fn parse_address(line: &[u8], s: Scan) -> Addressed {
+// The next word as the sixteen octets of an address, in HEX.
+fn parse_hex_address(line: &[u8], s: Scan) -> Addressed {
     let mut space = [0u8; MOST_OCTETS];
     let octets: &mut [u8] = &mut space;
     let word = hex(line, s, octets);
@@ -215,6 +217,27 @@ fn parse_address(line: &[u8], s: Scan) -> Addressed {
             value: 0,
         },
         address: address_from(octets, 0),
+    }
+}
+
+// The next word as an address. The octets past a dotted address's four are zero.
+fn parse_address(line: &[u8], s: Scan) -> Addressed {
+    let from = skip_spaces(line, s.at);
+    let to = word_end(line, from);
+    let four = dotted(part(line, from, to));
+    if four == NO_NUMBER {
+        return parse_hex_address(line, s);
+    }
+    Addressed {
+        scan: Scan {
+            at: to,
+            ok: s.ok,
+            value: 0,
+        },
+        address: Address {
+            high: four % 4294967296 * 4294967296,
+            low: 0,
+        },
     }
 }
 

@@ -5,7 +5,7 @@ const MOST_DIGITS: usize = 10;
 
 const LARGEST: u64 = 9999999999;
 
-const NO_NUMBER: u64 = u64::MAX;
+pub(crate) const NO_NUMBER: u64 = u64::MAX;
 
 const MOST_HEX: usize = 1024;
 
@@ -45,15 +45,20 @@ pub(crate) fn skip_spaces(line: &[u8], at: usize) -> usize {
     i
 }
 
-pub(crate) fn word_end(line: &[u8], at: usize) -> usize {
+// Where an octet first stands from `at` on, or the end.
+pub(crate) fn find(octets: &[u8], at: usize, octet: u8) -> usize {
     let mut i = at;
-    while i < line.len() {
-        if line[i] == b' ' {
+    while i < octets.len() {
+        if octets[i] == octet {
             return i;
         }
         i += 1;
     }
     i
+}
+
+pub(crate) fn word_end(line: &[u8], at: usize) -> usize {
+    find(line, at, b' ')
 }
 
 // The end of the count-th word after `at`.
@@ -103,11 +108,12 @@ fn with_digit(n: u64, octet: u8) -> u64 {
     n * 10 + (octet - b'0') as u64
 }
 
-fn decimal(word: &[u8]) -> u64 {
+// A word of at most `digits` digits; none where it is another.
+pub(crate) fn decimal(word: &[u8], digits: usize) -> u64 {
     if word.len() == 0 {
         return NO_NUMBER;
     }
-    if MOST_DIGITS < word.len() {
+    if digits < word.len() {
         return NO_NUMBER;
     }
     let mut n = 0;
@@ -123,7 +129,7 @@ fn decimal(word: &[u8]) -> u64 {
 pub(crate) fn number(line: &[u8], s: Scan, most: u64) -> Scan {
     let from = skip_spaces(line, s.at);
     let to = word_end(line, from);
-    let n = decimal(part(line, from, to));
+    let n = decimal(part(line, from, to), MOST_DIGITS);
     Scan {
         at: to,
         ok: s.ok & (n <= most),

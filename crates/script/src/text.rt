@@ -76,7 +76,7 @@ fn put_hex_16(out: &mut [u8], at: usize, n: u64) -> usize {
     put_hex_8(out, o, n)
 }
 
-pub(crate) fn put_hex_32(out: &mut [u8], at: usize, n: u64) -> usize {
+fn put_hex_32(out: &mut [u8], at: usize, n: u64) -> usize {
     let o = put_hex_16(out, at, n / 65536);
     put_hex_16(out, o, n)
 }
