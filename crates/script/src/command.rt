@@ -53,6 +53,7 @@ pub enum Part {
 pub enum Question {
     Nothing,
     Bad,
+    Echo(bool),
     Route(u8, Header),
     Check,
     Show,

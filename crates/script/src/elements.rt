@@ -1,4 +1,4 @@
-// The replies of readers and writers, refusals, and bad lines.
+// The replies of readers and writers, of `echo`, refusals, and bad lines.
 use crate::filters::put_row;
 use crate::kinds::place_of_kind;
 use crate::kinds::put_kind;
@@ -17,6 +17,14 @@ use filter::component::PLACES;
 
 pub fn put_bad_line(out: &mut [u8], at: usize, line: u64) -> usize {
     put_named_line(out, at, b"bad line", line)
+}
+
+pub fn put_switch(out: &mut [u8], at: usize, on: bool) -> usize {
+    if on {
+        put_line(out, at, b"echo on")
+    } else {
+        put_line(out, at, b"echo off")
+    }
 }
 
 pub fn put_refused(out: &mut [u8], at: usize, number: u8) -> usize {

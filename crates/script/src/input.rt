@@ -87,6 +87,12 @@ fn read_some(chunk: &mut [u8]) -> usize {
     io::count(got, chunk)
 }
 
+// Whether the next line is whole in what was read, so that it is found without waiting.
+pub(crate) fn is_line_at_hand(input: Input, chunk: &[u8]) -> bool {
+    let rest = part(chunk, 0, input.count);
+    find(rest, input.from, LF) < rest.len()
+}
+
 // Reads on where all that was read is taken.
 fn refill(input: Input, chunk: &mut [u8]) -> Input {
     let mut next = input;

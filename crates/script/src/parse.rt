@@ -34,10 +34,10 @@ use filter::Address;
 use filter::Header;
 
 // The words that a line begins with, and their places.
-const WORDS: [u8; 255] = *b"\
+const WORDS: [u8; 270] = *b"\
     default        dedicated      modify         deactivate     start          reject         \
     route          check          show           element        rewrite        emit           \
-    force          place          compose        filter         identifier     ";
+    force          place          compose        filter         identifier     echo           ";
 
 const DEFAULT: usize = 0;
 
@@ -73,6 +73,8 @@ const FILTER: usize = 15;
 
 const IDENTIFIER: usize = 16;
 
+const ECHO: usize = 17;
+
 // The words of a role, and their places.
 const ROLES: [u8; 45] = *b"idle           default        dedicated      ";
 
@@ -81,6 +83,11 @@ const IDLE_ROLE: usize = 0;
 const DEFAULT_ROLE: usize = 1;
 
 const DEDICATED_ROLE: usize = 2;
+
+// The words after `echo`, and the place of the last.
+const SWITCHES: [u8; 30] = *b"off            on             ";
+
+const ON: usize = 1;
 
 const OCTET: u64 = 255;
 
@@ -94,7 +101,7 @@ const LARGEST_ROOM: u64 = 512;
 
 const ADDRESS_OCTETS: u64 = 16;
 
-const LONGEST_LINE: usize = 2048;
+pub(crate) const LONGEST_LINE: usize = 2048;
 
 const MOST_TIMES: u64 = 1000000;
 
@@ -353,6 +360,15 @@ fn parse_emit(line: &[u8], s: Scan) -> Command {
     parse_bare(line, room, Question::Emit(size(room.value)))
 }
 
+fn parse_echo(line: &[u8], s: Scan) -> Command {
+    let word = listed(&SWITCHES, line, s);
+    let switch = size(word.value);
+    if ON < switch {
+        return bad();
+    }
+    parse_bare(line, word, Question::Echo(switch == ON))
+}
+
 fn forced(line: &[u8], identity: u8, role: RoleWord, s: Scan) -> Command {
     let transaction = number(line, s, OCTET);
     if !whole(line, transaction) {
@@ -393,6 +409,7 @@ fn parse_word(word: usize, line: &[u8], s: Scan, value: Scan) -> Command {
         COMPOSE => parse_compose(line, s),
         FILTER => parse_filter(line, s),
         IDENTIFIER => parse_identifier(line, s),
+        ECHO => parse_echo(line, s),
         _ => bad(),
     }
 }

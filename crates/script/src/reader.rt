@@ -6,20 +6,28 @@ use crate::command::Hand;
 use crate::command::Part;
 use crate::command::Question;
 use crate::input::Input;
+use crate::input::is_line_at_hand;
 use crate::input::next_line;
 use crate::input::start_input;
+use crate::parse::LONGEST_LINE;
 use crate::parse::parse_line;
 use crate::scan::part;
+use crate::text::flush;
+use crate::text::put_line;
 use filter::Filter;
 
 // What a line is kept in: the longest line with a CR, and one octet more, by which a line that is too long is told.
 pub const LINE_ROOM: usize = 2050;
 
 // What the last line asks for, how often, and with which filter; it was the `lines`-th. An operation is `composing` from the first
-// `compose` on. Where there is no line more, `ended`, and nothing is asked.
+// `compose` on. The line is `echoed`, and those after it are where `echoing`; its reply goes to `at` of the replies' text. Where there is no
+// line more, `ended`, and nothing is asked.
 pub struct Reader {
     input: Input,
     composing: bool,
+    echoed: bool,
+    echoing: bool,
+    pub at: usize,
     pub ended: bool,
     pub lines: u64,
     pub command: Command,
@@ -27,10 +35,13 @@ pub struct Reader {
     pub filter: Filter,
 }
 
-pub fn start_reader() -> Reader {
+pub fn start_reader(echoing: bool) -> Reader {
     Reader {
         input: start_input(),
         composing: false,
+        echoed: false,
+        echoing,
+        at: 0,
         ended: false,
         lines: 0,
         command: Command::Ask(Question::Nothing),
@@ -43,6 +54,16 @@ fn is_compose(command: Command) -> bool {
     match command {
         Command::Compose(_) => true,
         _ => false,
+    }
+}
+
+fn echoing_after(command: Command, echoing: bool) -> bool {
+    match command {
+        Command::Ask(question) => match question {
+            Question::Echo(on) => on,
+            _ => echoing,
+        },
+        _ => echoing,
     }
 }
 
@@ -74,6 +95,9 @@ fn take_apart(reader: Reader, input: Input, line: &[u8], octets: &mut [u8]) -> R
     Reader {
         input,
         composing: reader.composing | is_compose(command),
+        echoed: reader.echoing & (line.len() <= LONGEST_LINE),
+        echoing: echoing_after(command, reader.echoing),
+        at: 0,
         ended: false,
         lines: counted(reader.lines),
         command,
@@ -86,6 +110,9 @@ fn at_end(reader: Reader, input: Input) -> Reader {
     Reader {
         input,
         composing: reader.composing,
+        echoed: false,
+        echoing: reader.echoing,
+        at: 0,
         ended: true,
         lines: reader.lines,
         command: Command::Ask(Question::Nothing),
@@ -94,12 +121,47 @@ fn at_end(reader: Reader, input: Input) -> Reader {
     }
 }
 
-// The next line, read and taken apart.
-pub fn read_line(reader: Reader, chunk: &mut [u8], line: &mut [u8], octets: &mut [u8]) -> Reader {
+// The next line, where there is one.
+fn next_apart(reader: Reader, chunk: &mut [u8], line: &mut [u8], octets: &mut [u8]) -> Reader {
     let before = reader.input;
     let input = next_line(before, chunk, line);
     if !input.found {
         return at_end(reader, input);
     }
     take_apart(reader, input, part(line, 0, input.held), octets)
+}
+
+// Replies are written out before a line is waited for.
+fn flush_before_wait(out: &[u8], at: usize, input: Input, chunk: &[u8]) -> usize {
+    if is_line_at_hand(input, chunk) {
+        return at;
+    }
+    flush(out, at);
+    0
+}
+
+// The line as it came, without its CR, where it is echoed.
+fn put_echo(out: &mut [u8], at: usize, reader: Reader, line: &[u8]) -> usize {
+    if !reader.echoed {
+        return at;
+    }
+    let input = reader.input;
+    put_line(out, at, part(line, 0, input.held))
+}
+
+// The next line, read and taken apart; `at` is where `out` has come to.
+pub fn read_line(
+    reader: Reader,
+    chunk: &mut [u8],
+    line: &mut [u8],
+    octets: &mut [u8],
+    out: &mut [u8],
+    at: usize,
+) -> Reader {
+    let before = reader.input;
+    let o = flush_before_wait(out, at, before, chunk);
+    let mut next = next_apart(reader, chunk, line, octets);
+    let o = put_echo(out, o, next, line);
+    next.at = o;
+    next
 }

@@ -80,7 +80,7 @@ pub fn part(line: &[u8], from: usize, to: usize) -> &[u8] {
     &line[..0]
 }
 
-pub(crate) fn same(a: &[u8], b: &[u8]) -> bool {
+pub fn same(a: &[u8], b: &[u8]) -> bool {
     if a.len() != b.len() {
         return false;
     }

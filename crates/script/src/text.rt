@@ -17,7 +17,7 @@ pub fn put(out: &mut [u8], at: usize, octet: u8) -> usize {
 }
 
 // Writes out what is held.
-pub fn flush(out: &[u8], at: usize) {
+pub(crate) fn flush(out: &[u8], at: usize) {
     io::write_all(STDOUT_FILENO, part(out, 0, at));
 }
 

@@ -13,6 +13,7 @@ use script::command::Question;
 use script::elements::put_bad_line;
 use script::elements::put_cause;
 use script::elements::put_element;
+use script::elements::put_switch;
 use script::elements::put_written;
 use script::scan::part;
 use table::Table;
@@ -79,6 +80,7 @@ pub(crate) fn answer(
     match asked {
         Question::Nothing => at,
         Question::Bad => put_bad_line(out, at, lines),
+        Question::Echo(on) => put_switch(out, at, on),
         Question::Route(default, header) => ask_route(t, default, header, times, out, at),
         Question::Check => ask_check(t, times, out, at),
         Question::Show => put_table(out, at, t),

@@ -7,6 +7,18 @@ mod run;
 mod tables;
 mod times;
 
+use script::scan::part;
+use script::scan::same;
+
+const ECHO: [u8; 6] = *b"--echo";
+
+// The one word that the program takes; what else it might be started with is for the command `session` to tell.
+fn is_echo_asked() -> bool {
+    let mut word = [0u8; 6];
+    let n = os::arg(1, &mut word);
+    same(part(&word, 0, n), &ECHO)
+}
+
 fn main() {
-    run::run_all();
+    run::run_all(is_echo_asked());
 }

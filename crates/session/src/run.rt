@@ -13,19 +13,26 @@ use script::reader::LINE_ROOM;
 use script::reader::read_line;
 use script::reader::start_reader;
 use script::scan::MOST_OCTETS;
-use script::text::flush;
 use table::Table;
 
 // The table and the operation are locals of the loop, and a line is handed only what it needs of them: a struct of both would be copied
 // several times a line. The table comes in as `t`: made here, its literal would have every table of this function kept in pieces. A proved
 // loop has to end, and nothing says that the input does: the turns count down from a number that no run uses up.
-fn run_lines(mut t: Table, chunk: &mut [u8], line: &mut [u8], octets: &mut [u8], out: &mut [u8]) {
+fn run_lines(
+    mut t: Table,
+    echoing: bool,
+    chunk: &mut [u8],
+    line: &mut [u8],
+    octets: &mut [u8],
+    out: &mut [u8],
+) {
     let mut e = empty_operation(element::Answer::Identifiers);
     let mut at = 0;
-    let mut reader = start_reader();
+    let mut reader = start_reader(echoing);
     let mut turns = u64::MAX;
     while turns > 0 && !reader.ended {
-        reader = read_line(reader, chunk, line, octets);
+        reader = read_line(reader, chunk, line, octets, out, at);
+        at = reader.at;
         let command = judged(reader);
         let f = reader.filter;
         match command {
@@ -49,16 +56,16 @@ fn run_lines(mut t: Table, chunk: &mut [u8], line: &mut [u8], octets: &mut [u8],
         }
         turns -= 1;
     }
-    flush(out, at);
 }
 
-pub(crate) fn run_all() {
+pub(crate) fn run_all(echoing: bool) {
     let mut chunk = io::buffer();
     let mut line = [0u8; LINE_ROOM];
     let mut octets = [0u8; MOST_OCTETS];
     let mut out = io::buffer();
     run_lines(
         table::bearer::empty_table(),
+        echoing,
         &mut chunk,
         &mut line,
         &mut octets,
