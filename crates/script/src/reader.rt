@@ -20,12 +20,11 @@ use filter::Filter;
 pub const LINE_ROOM: usize = 2050;
 
 // What the last line asks for, how often, and with which filter; it was the `lines`-th. An operation is `composing` from the first
-// `compose` on. The line is `echoed`, and those after it are where `echoing`; its reply goes to `at` of the replies' text. Where there is no
-// line more, `ended`, and nothing is asked.
+// `compose` on, and the lines to come are echoed where `echoing`. The reply goes to `at` of the replies' text. Where there is no line more,
+// `ended`, and nothing is asked.
 pub struct Reader {
     input: Input,
     composing: bool,
-    echoed: bool,
     echoing: bool,
     pub at: usize,
     pub ended: bool,
@@ -39,7 +38,6 @@ pub fn start_reader(echoing: bool) -> Reader {
     Reader {
         input: start_input(),
         composing: false,
-        echoed: false,
         echoing,
         at: 0,
         ended: false,
@@ -88,16 +86,15 @@ fn counted(lines: u64) -> u64 {
 }
 
 // The line that the input holds, as one line more. The octets of its HEX are put into `octets`.
-fn take_apart(reader: Reader, input: Input, line: &[u8], octets: &mut [u8]) -> Reader {
+fn take_apart(reader: Reader, input: Input, line: &[u8], octets: &mut [u8], at: usize) -> Reader {
     let asked = parse_line(line, reader.composing, octets);
     let command = asked.command;
     let filter = filter_of(line, command, asked.times);
     Reader {
         input,
         composing: reader.composing | is_compose(command),
-        echoed: reader.echoing & (line.len() <= LONGEST_LINE),
         echoing: echoing_after(command, reader.echoing),
-        at: 0,
+        at,
         ended: false,
         lines: counted(reader.lines),
         command,
@@ -106,29 +103,18 @@ fn take_apart(reader: Reader, input: Input, line: &[u8], octets: &mut [u8]) -> R
     }
 }
 
-fn at_end(reader: Reader, input: Input) -> Reader {
+fn at_end(reader: Reader, input: Input, at: usize) -> Reader {
     Reader {
         input,
         composing: reader.composing,
-        echoed: false,
         echoing: reader.echoing,
-        at: 0,
+        at,
         ended: true,
         lines: reader.lines,
         command: Command::Ask(Question::Nothing),
         times: 1,
         filter: no_filter(),
     }
-}
-
-// The next line, where there is one.
-fn next_apart(reader: Reader, chunk: &mut [u8], line: &mut [u8], octets: &mut [u8]) -> Reader {
-    let before = reader.input;
-    let input = next_line(before, chunk, line);
-    if !input.found {
-        return at_end(reader, input);
-    }
-    take_apart(reader, input, part(line, 0, input.held), octets)
 }
 
 // Replies are written out before a line is waited for.
@@ -140,16 +126,15 @@ fn flush_before_wait(out: &[u8], at: usize, input: Input, chunk: &[u8]) -> usize
     0
 }
 
-// The line as it came, without its CR, where it is echoed.
-fn put_echo(out: &mut [u8], at: usize, reader: Reader, line: &[u8]) -> usize {
-    if !reader.echoed {
-        return at;
+// The line as it came, without its CR, where it is not too long.
+fn put_echo(out: &mut [u8], at: usize, echoing: bool, line: &[u8]) -> usize {
+    if echoing & (line.len() <= LONGEST_LINE) {
+        return put_line(out, at, line);
     }
-    let input = reader.input;
-    put_line(out, at, part(line, 0, input.held))
+    at
 }
 
-// The next line, read and taken apart; `at` is where `out` has come to.
+// The next line, read, echoed and taken apart; `at` is where `out` has come to.
 pub fn read_line(
     reader: Reader,
     chunk: &mut [u8],
@@ -160,8 +145,11 @@ pub fn read_line(
 ) -> Reader {
     let before = reader.input;
     let o = flush_before_wait(out, at, before, chunk);
-    let mut next = next_apart(reader, chunk, line, octets);
-    let o = put_echo(out, o, next, line);
-    next.at = o;
-    next
+    let input = next_line(before, chunk, line);
+    if !input.found {
+        return at_end(reader, input, o);
+    }
+    let text = part(line, 0, input.held);
+    let o = put_echo(out, o, reader.echoing, text);
+    take_apart(reader, input, text, octets, o)
 }
