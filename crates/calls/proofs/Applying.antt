@@ -22,7 +22,7 @@ use Rattle.table.specs.declared.bearer.Role.{Role}
 use Rattle.table.specs.declared.bearer.Role.the-variants.{Idle}
 use Rattle.table.specs.declared.bearer.Bearer.{Bearer}
 use Rattle.table.specs.declared.bearer.Table.{Table}
-use Rattle.table.specs.Bearers.{bearerCount, indexOf, identityOf, bearerAt, roleAt, transactionAt, filterAt, View, bearerOf, tableOf, build}
+use Rattle.table.specs.Bearers.{bearerCount, indexOf, identityOf, idleBearer, bearerAt, roleAt, transactionAt, filterAt, View, bearerOf, tableOf, build}
 use Rattle.table.specs.Ranges.{TableInRange}
 use Rattle.table.specs.WellFormed.{wellFormed}
 use Rattle.calls.specs.declared.reply.Reply.{Reply}
@@ -34,7 +34,7 @@ use Rattle.calls.specs.Reply.{outcome}
 use Rattle.calls.specs.Lay.{takes}
 use Rattle.calls.specs.inner.Overlay.{goneIn, overlaidIn, glancedOf, lookedInto, touched, seenOf, seenAt}
 use Rattle.calls.specs.inner.Decide.{unseen, conflictSeen, seenIn, followsSeen, repliedSeen, fateOf, fateAt, fatedView}
-use Rattle.calls.proofs.Rows.{bearerWith, row-kept-at, Stored, store-more, store-skip, store-still}
+use Rattle.calls.proofs.Rows.{bearerWith, idle-is, row-kept-at, Stored, store-more, store-skip, store-still}
 use Rattle.calls.proofs.Overlays.{looked-seen, glanced-seen}
 
 seen-transaction : (t : Table) (k : ℕ) (seen : List Seen) (taken gone : List Bool) → seen ≡ tab (seenAt taken gone t k) bearerCount → (i : ℕ) → i < bearerCount
@@ -103,9 +103,9 @@ module _ (t : Table) (k x : ℕ) (seen : List Seen) (d : Decision) (new : List F
     unfolding becomes
     by-fate cut e = ap (λ (cut : Bool). becomes cut (f .lay) (f .transaction)) (sym e) ∙ ap (λ (f : Fate). becomes (f .cut) (f .lay) (f .transaction)) is
 
-    cut-there : (r : Table) → Puts r true (bearerWith Idle 0 (tab (λ j. emptyFilter) placeCount)) → Stored v t r (i + 1)
+    cut-there : (r : Table) → Puts r true idleBearer → Stored v t r (i + 1)
     unfolding becomes
-    cut-there r w = rw (w .3) (store-more v t s i (w .0) below (w .2 ∙ by-fate true (w .1)) h)
+    cut-there r w = rw (w .3) (store-more v t s i (w .0) below (w .2 ∙ idle-is ∙ by-fate true (w .1)) h)
 
     laid-there : (r : Table) → Puts r false (laid (f .lay) (f .transaction) (bearerAt s i)) → Stored v t r (i + 1)
     unfolding becomes
@@ -135,7 +135,7 @@ module _ (t : Table) (k x : ℕ) (seen : List Seen) (d : Decision) (new : List F
 
     -- the turn, by the three ways to its end
     pub stored-there : {A B C : Type 0} (r : Table) → TableInRange t → ((r : Role) → r ≡ turns false r) → seen ≡ tab (seenAt taken gone t k) bearerCount
-        → (A → Puts r true (bearerWith Idle 0 (tab (λ j. emptyFilter) placeCount))) → (B → Puts r false (laid (f .lay) (f .transaction) (bearerAt s i)))
+        → (A → Puts r true idleBearer) → (B → Puts r false (laid (f .lay) (f .transaction) (bearerAt s i)))
         → (C → (f .cut ≡ false) × (f .change ≡ false) × (r ≡ s)) → A ⊎ (B ⊎ C) → Stored v t r (i + 1)
     stored-there r ok leaves e cuts lays stays =
         ⊎-elim (λ a. cut-there r (cuts a)) (⊎-elim (λ b. laid-there r (lays b)) (λ c. let w = stays c in rw (w .2) (left-there ok leaves e (w .0) (w .1))))

@@ -19,7 +19,7 @@ use Rattle.table.specs.declared.bearer.Role.{Role}
 use Rattle.table.specs.declared.bearer.Role.the-variants.{Idle, Default, Dedicated}
 use Rattle.table.specs.declared.bearer.Bearer.{Bearer}
 use Rattle.table.specs.declared.bearer.Table.{Table}
-use Rattle.table.specs.Bearers.{bearerCount, lastTransaction, isIdentity, indexOf, identityOf, noBearer, bearerAt, roleAt, transactionAt, filterAt, View, bearerOf, tableOf, build, isIdle, roleOf, inConnection}
+use Rattle.table.specs.Bearers.{bearerCount, lastTransaction, isIdentity, indexOf, identityOf, noBearer, idleBearer, bearerAt, roleAt, transactionAt, filterAt, View, bearerOf, tableOf, build, isIdle, roleOf, inConnection}
 use Rattle.table.specs.Ranges.{TableInRange}
 use Rattle.table.specs.WellFormed.{wellFormed}
 use Rattle.calls.specs.declared.reply.Cause.the-variants.{BearerIdentity}
@@ -39,7 +39,7 @@ use Rattle.calls.specs.inner.Overlay.{glancedOf}
 use Rattle.calls.specs.inner.Decide.{unseen, seenIn, roleSeen, opensSeen}
 use Rattle.calls.specs.inner.Plain.{glanced, dropping, stayed, opening, starting, openSeen, ownerSeen, transactionSeen, decidedDefault, decidedReject, decidedStart, decidedPlain, unmoved, turnOf, turned, turnAt, steppedView}
 use Rattle.calls.proofs.Views.{views-same, role-built, transaction-built, filter-built}
-use Rattle.calls.proofs.Rows.{bearerWith, row-kept-at, Stored, store-more, store-skip, store-still, self-built}
+use Rattle.calls.proofs.Rows.{bearerWith, idle-is, row-kept-at, Stored, store-more, store-skip, store-still, self-built}
 use Rattle.calls.proofs.Checks.{role-closed}
 
 -- ---- A turn of the walk
@@ -60,9 +60,9 @@ module _ (t : Table) (d : Step) where
     unfolding becomes
     by-turn cut q = ap (λ (cut : Bool). becomes i cut f) (sym q) ∙ ap (λ (f : Turn). becomes i (f .cut) f) turns
 
-    pub cut-there : (b : Bearer) → b ≡ bearerWith Idle 0 (tab (λ j. emptyFilter) placeCount) → f .cut ≡ true → Stored v t (tableOf (set (s .bearers) i b)) (i + 1)
+    pub cut-there : (b : Bearer) → b ≡ idleBearer → f .cut ≡ true → Stored v t (tableOf (set (s .bearers) i b)) (i + 1)
     unfolding becomes
-    cut-there b e q = store-more v t s i b below (e ∙ by-turn true q) h
+    cut-there b e q = store-more v t s i b below (e ∙ idle-is ∙ by-turn true q) h
 
     module _ (ok : TableInRange t) (q : f .cut ≡ false) where
       pub turned-there : (b : Bearer) → b ≡ turned (bearerAt s i) f → Stored v t (tableOf (set (s .bearers) i b)) (i + 1)

@@ -9,16 +9,22 @@ use Rattle.laws.proofs.Index.{tab-is, stored, stored-start, stored-more, stored
 use Rattle.laws.proofs.Typed.{each-at}
 use Rattle.filter.specs.declared.component.Filter.{Filter}
 use Rattle.table.specs.declared.bearer.Role.{Role}
+use Rattle.table.specs.declared.bearer.Role.the-variants.{Idle}
 use Rattle.table.specs.declared.bearer.Bearer.{Bearer}
 use Rattle.table.specs.declared.bearer.Table.{Table}
 use Rattle.filter.specs.Sizes.{placeCount}
 use Rattle.filter.specs.Build.{emptyFilter}
-use Rattle.table.specs.Bearers.{bearerCount, noBearer, bearerAt, roleAt, transactionAt, filterAt, View, view, bearerOf, tableOf, build}
+use Rattle.table.specs.Bearers.{bearerCount, noBearer, idleBearer, bearerAt, roleAt, transactionAt, filterAt, View, view, bearerOf, tableOf, build}
 use Rattle.table.specs.Ranges.{TableInRange}
 
 -- a bearer that keeps its row
 abbrev pub bearerWith : Role → ℕ → List Filter → Bearer
 bearerWith role x row = record { role = role; transaction = x; row = row }
+
+-- the idle bearer, place by place
+pub idle-is : idleBearer ≡ bearerWith Idle 0 (tab (λ j. emptyFilter) placeCount)
+unfolding tab
+idle-is = refl
 
 pub row-kept-at : (t : Table) (i : ℕ) → TableInRange t → i < bearerCount → (role : Role) (x : ℕ)
     → bearerWith role x (bearerAt t i .row) ≡ bearerWith role x (tab (filterAt t i) placeCount)

@@ -6,7 +6,6 @@ ghost use Rattle.calls.specs.Others.{activateDefaultOf, activateDedicate
 use crate::decide::decide_dedicated;
 use crate::decide::fate_of;
 use crate::decide::reply_of;
-use crate::modify::idle_bearer;
 use crate::overlay::gone_by;
 use crate::overlay::overlaid;
 use crate::overlay::taken_by;
@@ -26,6 +25,7 @@ use table::Bearer;
 use table::Role;
 use table::Table;
 use table::bearer::BEARERS;
+use table::bearer::idle_bearer;
 use table::bearer::index_of;
 use table::well_formed::well_formed;
 

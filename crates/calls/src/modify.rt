@@ -1,9 +1,5 @@
 // The modify message.
 ghost use mathlib.Core.Path.{_≡_};
-ghost use Rattle.laws.specs.Index.{tab};
-ghost use Rattle.filter.specs.Build.{emptyFilter};
-ghost use Rattle.filter.specs.Sizes.{placeCount};
-ghost use Rattle.table.specs.declared.bearer.Role.the-variants.{Idle};
 ghost use Rattle.calls.specs.Modify.{creates, modifyOf};
 use crate::decide::decide;
 use crate::decide::fate_of;
@@ -18,12 +14,10 @@ use crate::seen::nothing_seen;
 use crate::seen::see;
 use element::SetOperation;
 use element::read::read;
-use filter::Filter;
-use filter::component::PLACES;
 use table::Bearer;
-use table::Role;
 use table::Table;
 use table::bearer::BEARERS;
+use table::bearer::idle_bearer;
 use table::bearer::index_of;
 use table::well_formed::well_formed;
 
@@ -34,16 +28,6 @@ pub(crate) fn does_create(operation: SetOperation) -> bool
         SetOperation::Create => true,
         SetOperation::Add => false,
         SetOperation::Replace => false,
-    }
-}
-
-pub(crate) fn idle_bearer() -> Bearer
-    ensures { λ r. ⌜ r ≡ record { role = Idle; transaction = 0; row = tab (λ j. emptyFilter) placeCount } ⌝ }
-{
-    Bearer {
-        role: Role::Idle,
-        transaction: 0,
-        row: [Filter::bare(0, 0); PLACES],
     }
 }
 

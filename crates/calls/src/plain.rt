@@ -9,7 +9,6 @@ ghost use Rattle.calls.specs.inner.Plain.{glanced, dropping, stayed, ope
 use crate::decide::is_available;
 use crate::decide::opens_any;
 use crate::decide::role_seen;
-use crate::modify::idle_bearer;
 use crate::reply::Answer;
 use crate::reply::Cause;
 use crate::reply::Refusal;
@@ -22,6 +21,7 @@ use table::Table;
 use table::bearer::BEARERS;
 use table::bearer::FIRST_IDENTITY;
 use table::bearer::LAST_TRANSACTION;
+use table::bearer::idle_bearer;
 use table::bearer::in_connection;
 use table::bearer::index_of;
 use table::bearer::is_dedicated;

@@ -73,8 +73,12 @@ tableOf bearers = record { bearers = bearers }
 abbrev pub build : View → Table
 build v = tableOf (tab (bearerOf v) bearerCount)
 
+-- "idle bearers hold nothing"
+abbrev pub idleBearer : Bearer
+idleBearer = record { role = Idle; transaction = 0; row = replicate placeCount emptyFilter }
+
 unfoldable pub emptyTable : Table
-emptyTable = tableOf (replicate bearerCount (record { role = Idle; transaction = 0; row = replicate placeCount emptyFilter }))
+emptyTable = tableOf (replicate bearerCount idleBearer)
 
 -- ---- roles and connections
 abbrev pub isIdle : Role → Bool

@@ -1,7 +1,7 @@
 // Bearers and the table of them.
 ghost use mathlib.Core.Path.{_≡_};
 ghost use Prim.Native.Nat.{_-_, _≤_, _<_};
-ghost use Rattle.table.specs.Bearers.{emptyTable, isIdle, isDefault, isDedicated, isIdentity, indexOf, roleAt, connectionOf, inConnection, connectionAt, roleOf};
+ghost use Rattle.table.specs.Bearers.{idleBearer, emptyTable, isIdle, isDefault, isDedicated, isIdentity, indexOf, roleAt, connectionOf, inConnection, connectionAt, roleOf};
 use filter::Filter;
 use filter::component::PLACES;
 
@@ -32,16 +32,21 @@ pub struct Table {
     pub bearers: [Bearer; BEARERS],
 }
 
-pub fn empty_table() -> Table
-    ensures { λ r. ⌜ r ≡ emptyTable ⌝ }
+pub fn idle_bearer() -> Bearer
+    ensures { λ r. ⌜ r ≡ idleBearer ⌝ }
 {
-    let idle = Bearer {
+    Bearer {
         role: Role::Idle,
         transaction: 0,
         row: [Filter::bare(0, 0); PLACES],
-    };
+    }
+}
+
+pub fn empty_table() -> Table
+    ensures { λ r. ⌜ r ≡ emptyTable ⌝ }
+{
     Table {
-        bearers: [idle; BEARERS],
+        bearers: [idle_bearer(); BEARERS],
     }
 }
 

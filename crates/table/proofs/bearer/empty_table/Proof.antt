@@ -10,4 +10,4 @@ unfolding emptyTable
 empty-table-spec =
     tie.close
     (tie.spec
-    (λ c κs. search needs) (λ c. rw (c .bare .ensures)))
+    (λ c κs. search needs) (λ c. rw (c .idle-bearer .ensures)))
