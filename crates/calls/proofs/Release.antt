@@ -25,7 +25,7 @@ use Rattle.table.specs.Bearers.{bearerCount, indexOf, identityOf, bearerAt, rol
 use Rattle.table.specs.WellFormed.{Held}
 use Rattle.table.specs.Ranges.{TableInRange}
 use Rattle.calls.specs.declared.reply.Answer.{Answer}
-use Rattle.calls.specs.declared.reply.Answer.the-variants.{Accept, Reject, Release, Reattach, Started, Closed, Refused}
+use Rattle.calls.specs.declared.reply.Answer.the-variants.{Accept, Reject, Release, Reattach, Started, Closed, Synchronised, Refused}
 use Rattle.calls.specs.declared.reply.FollowUps.{FollowUps}
 use Rattle.calls.specs.declared.reply.Outcome.{Outcome}
 use Rattle.calls.specs.Reply.{numberOf, followOf, answered}
@@ -210,6 +210,7 @@ ends-number (Release connection) e = refl
 ends-number Reattach e = refl
 ends-number (Started transaction) e = refl
 ends-number (Closed transaction) e = refl
+ends-number Synchronised e = refl
 ends-number (Refused refusal) e = absurd e
 
 module _ (t : Table) (connection bearer x : ℕ) (value : List ℕ) where

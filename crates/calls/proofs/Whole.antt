@@ -47,7 +47,7 @@ use Rattle.calls.specs.Modify.{creates, mismatch, deletedFilters, delete
 use Rattle.calls.specs.Others.{available, activateDefaultOf, activatedBy, activateRead, activateNamed, activateDedicatedOf, deactivateOf, afterReject, rejectOf, startOf}
 use Rattle.calls.specs.Changes.{Sound}
 use Rattle.calls.proofs.Views.{role-built}
-use Rattle.calls.proofs.Preserved.{well-built, closed-well, well-started, not-open, well-default, well-dedicated, dropped-well, well-deleted, WellSet, laid-cases, laid-well}
+use Rattle.calls.proofs.Preserved.{Along, well-built, well-cut, closed-well, well-started, not-open, well-default, well-dedicated, dropped-well, well-deleted, WellSet, laid-cases, laid-well}
 use Rattle.calls.specs.Checks.{Available}
 use Rattle.calls.proofs.Asked.{available-says, active-at}
 
@@ -169,6 +169,9 @@ module _ (t : Table) (sound : Sound t) where
 
   cut-in : (gone : ℕ → Bool) → TableInRange (build (cutView t gone))
   cut-in gone = built-in-range (cutView t gone) (cut-in-range t (sound .inRange) gone)
+
+  pub cut-sound : (gone : ℕ → Bool) → Along t gone → Sound (build (cutView t gone))
+  cut-sound gone along = sound-built (cutView t gone) (cut-in-range t (sound .inRange) gone) (well-cut t (sound .well) gone along)
 
   dropped-sound : (bearer : ℕ) → Sound (dropped t bearer)
   unfolding dropped

@@ -23,7 +23,7 @@ use Rattle.table.specs.WellFormed.{Held, WellFormed}
 use Rattle.calls.specs.declared.reply.Cause.{Cause}
 use Rattle.calls.specs.declared.reply.Refusal.the-variants.{NotWellFormed}
 use Rattle.calls.specs.declared.reply.Answer.{Answer}
-use Rattle.calls.specs.declared.reply.Answer.the-variants.{Accept, Reject, Release, Reattach, Started, Closed, Refused}
+use Rattle.calls.specs.declared.reply.Answer.the-variants.{Accept, Reject, Release, Reattach, Started, Closed, Synchronised, Refused}
 use Rattle.calls.specs.declared.reply.FollowUps.{FollowUps}
 use Rattle.calls.specs.declared.reply.Outcome.{Outcome}
 use Rattle.calls.specs.Reply.{numberOf, followOf}
@@ -168,6 +168,7 @@ SendsReply (Release default) = ⊥
 SendsReply Reattach = ⊥
 SendsReply (Started transaction) = ⊥
 SendsReply (Closed transaction) = ⊥
+SendsReply Synchronised = ⊥
 SendsReply (Refused refusal) = ⊥
 
 -- "release", or "detach and re-attach"
@@ -178,6 +179,7 @@ EndsConnection (Release default) = Unit {0}
 EndsConnection Reattach = Unit {0}
 EndsConnection (Started transaction) = ⊥
 EndsConnection (Closed transaction) = ⊥
+EndsConnection Synchronised = ⊥
 EndsConnection (Refused refusal) = ⊥
 
 -- "Any conflict on the default": a new filter has the precedence of an old filter of the default that remains

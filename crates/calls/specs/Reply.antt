@@ -10,9 +10,9 @@ use Rattle.element.specs.declared.answer.Cause.the-variants.{Operation, Semanti
 use Rattle.calls.specs.declared.reply.Cause.{Cause}
 use Rattle.calls.specs.declared.reply.Cause.the-variants.{TftSemantics, TftSyntax, BearerIdentity, FilterSemantics, FilterSyntax, Transaction}
 use Rattle.calls.specs.declared.reply.Refusal.{Refusal}
-use Rattle.calls.specs.declared.reply.Refusal.the-variants.{NotWellFormed, NotOpen, NoIdentity, AlreadyOpen, NoBearer, BearerBusy}
+use Rattle.calls.specs.declared.reply.Refusal.the-variants.{NotWellFormed, NotOpen, NoIdentity, AlreadyOpen, NoBearer, BearerBusy, StatusLength}
 use Rattle.calls.specs.declared.reply.Answer.{Answer}
-use Rattle.calls.specs.declared.reply.Answer.the-variants.{Accept, Reject, Release, Reattach, Started, Closed, Refused}
+use Rattle.calls.specs.declared.reply.Answer.the-variants.{Accept, Reject, Release, Reattach, Started, Closed, Synchronised, Refused}
 use Rattle.calls.specs.declared.reply.FollowUps.{FollowUps}
 use Rattle.calls.specs.declared.reply.Outcome.{Outcome}
 
@@ -32,6 +32,7 @@ refusalNumber NoIdentity = 4
 refusalNumber AlreadyOpen = 5
 refusalNumber NoBearer = 6
 refusalNumber BearerBusy = 7
+refusalNumber StatusLength = 12
 
 -- 0 where nothing is refused
 abbrev pub numberOf : Answer → ℕ
@@ -41,6 +42,7 @@ numberOf (Release default) = 0
 numberOf Reattach = 0
 numberOf (Started transaction) = 0
 numberOf (Closed transaction) = 0
+numberOf Synchronised = 0
 numberOf (Refused refusal) = refusalNumber refusal
 
 -- the reader's cause, in the reply

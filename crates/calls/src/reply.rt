@@ -15,7 +15,7 @@ pub enum Cause {
     Transaction,
 }
 
-// 1, 3, 4, 5, 6 and 7 of document 01.
+// 1, 3, 4, 5, 6 and 7 of document 01, and 12 of document 02.
 pub enum Refusal {
     NotWellFormed,
     NotOpen,
@@ -23,9 +23,10 @@ pub enum Refusal {
     AlreadyOpen,
     NoBearer,
     BearerBusy,
+    StatusLength,
 }
 
-// Release and Reattach: no reply is sent.
+// Release, Reattach and Synchronised: no reply is sent.
 pub enum Answer {
     Accept(u8),
     Reject(u8, Cause),
@@ -33,6 +34,7 @@ pub enum Answer {
     Reattach,
     Started(u8),
     Closed(u8),
+    Synchronised,
     Refused(Refusal),
 }
 
@@ -75,6 +77,7 @@ fn refusal_number(refusal: Refusal) -> u8
         Refusal::AlreadyOpen => 5,
         Refusal::NoBearer => 6,
         Refusal::BearerBusy => 7,
+        Refusal::StatusLength => 12,
     }
 }
 
@@ -89,6 +92,7 @@ pub fn number(answer: Answer) -> u8
         Answer::Reattach => 0,
         Answer::Started(_) => 0,
         Answer::Closed(_) => 0,
+        Answer::Synchronised => 0,
         Answer::Refused(refusal) => refusal_number(refusal),
     }
 }
@@ -112,7 +116,8 @@ pub(crate) fn none_follow() -> FollowUps
     }
 }
 
-pub(crate) fn answer_with(t: Table, answer: Answer) -> Outcome
+// Nobody follows.
+pub fn answer_with(t: Table, answer: Answer) -> Outcome
     ensures { λ r. ⌜ r ≡ answered t answer ⌝ }
 {
     let follow = none_follow();

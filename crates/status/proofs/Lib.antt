@@ -1,0 +1,4 @@
+pub mod Values
+pub mod Taking
+pub mod Theorems
+pub mod Examples
