@@ -28,9 +28,9 @@ use Rattle.table.specs.declared.bearer.Table.{Table}
 use Rattle.table.specs.Ranges.{TableInRange}
 use Rattle.table.specs.WellFormed.{wellFormed}
 use Rattle.calls.specs.declared.reply.Cause.the-variants.{TftSemantics, TftSyntax, BearerIdentity, FilterSemantics, FilterSyntax, Transaction}
-use Rattle.calls.specs.declared.reply.Refusal.the-variants.{NotWellFormed as notWellFormed, NotOpen, NoIdentity, AlreadyOpen, NoBearer, BearerBusy}
+use Rattle.calls.specs.declared.reply.Refusal.the-variants.{NotWellFormed as notWellFormed, NotOpen, NoIdentity, AlreadyOpen, NoBearer, BearerBusy, StatusLength}
 use Rattle.calls.specs.declared.reply.Answer.{Answer as CallAnswer}
-use Rattle.calls.specs.declared.reply.Answer.the-variants.{Accept, Reject, Release, Reattach, Started, Closed, Refused as callRefused}
+use Rattle.calls.specs.declared.reply.Answer.the-variants.{Accept, Reject, Release, Reattach, Started, Closed, Synchronised, Refused as callRefused}
 use Rattle.calls.specs.Reply.{numberOf as callNumber}
 use Rattle.calls.specs.Modify.{malformed}
 use Rattle.calls.specs.Changes.{Sound, RefusalLeaves, Gives, MatchClosed}
@@ -38,13 +38,18 @@ use Rattle.calls.specs.Checks.{Open, LeftBy}
 use Rattle.calls.proofs.Closing.{modify-match, activate-match, left-says}
 use Rattle.calls.proofs.Answers.{modify-gives, activate-dedicated-gives, activate-default-gives, deactivate-gives, reject-gives, start-gives}
 use Rattle.calls.proofs.Theorems.{activate-default-malformed, activate-dedicated-malformed, modify-malformed, deactivate-malformed, reject-malformed, start-malformed, modify-refused, activate-dedicated-refused, activate-default-refused, deactivate-refused, reject-refused, start-refused}
+use Rattle.status.specs.declared.write.StatusWritten.{StatusWritten}
+use Rattle.status.specs.declared.write.StatusWritten.the-variants.{Wrote as wroteStatus, NotWellFormed as statusMalformed, NoRoom as statusNoRoom}
+use Rattle.status.specs.Write.{statusNumber, writeStatusOf}
+use Rattle.status.proofs.Taking.{synchronise-malformed}
+use Rattle.status.proofs.Theorems.{status-leaves, synchronise-gives, synchronise-refused}
 use Rattle.route.specs.declared.answer.Answer.{Answer as RouteAnswer}
 use Rattle.route.specs.declared.answer.Answer.the-variants.{Routed, Refused as routeRefused}
 use Rattle.route.specs.declared.answer.Refusal.the-variants.{NotWellFormed, NoDefault, InvalidHeader}
 use Rattle.route.specs.Routes.{numberOf as routeNumber, routeOf}
-use Rattle.promises.specs.Calls.{Call, activateDefault, activateDedicated, modify, deactivate, reject, start, outcomeOf, matchedIn, leftBy}
+use Rattle.promises.specs.Calls.{Call, activateDefault, activateDedicated, modify, deactivate, reject, start, synchronise, outcomeOf, matchedIn, leftBy}
 use Rattle.promises.specs.Messages.{Message, modifies, activates, transactionOf, withoutTransaction, handled}
-use Rattle.promises.specs.Calls.{numbersOf, readerNumbers, writerNumbers, replyNumbers, routeNumbers}
+use Rattle.promises.specs.Calls.{numbersOf, readerNumbers, writerNumbers, replyNumbers, routeNumbers, statusNumbers}
 
 -- "Every table, message .. gets an answer from document 01's list": of the numbers given, those of the call
 pub call-answers : (t : Table) (c : Call) → Gives (numbersOf c) (outcomeOf t c)
@@ -54,6 +59,7 @@ call-answers t (modify bearer transaction value) = modify-gives t bearer transac
 call-answers t (deactivate bearer transaction) = deactivate-gives t bearer transaction
 call-answers t (reject transaction cause) = reject-gives t transaction cause
 call-answers t (start transaction bearer) = start-gives t transaction bearer
+call-answers t (synchronise value) = synchronise-gives t value
 
 -- ---- "an answer from document 01's list": every value of an answer's type has a number of the list, so no function that gives an answer, or the number
 -- of one, gives any other
@@ -97,12 +103,14 @@ reply-numbers (Release default) = refl
 reply-numbers Reattach = refl
 reply-numbers (Started transaction) = refl
 reply-numbers (Closed transaction) = refl
+reply-numbers Synchronised = refl
 reply-numbers (callRefused notWellFormed) = refl
 reply-numbers (callRefused NotOpen) = refl
 reply-numbers (callRefused NoIdentity) = refl
 reply-numbers (callRefused AlreadyOpen) = refl
 reply-numbers (callRefused NoBearer) = refl
 reply-numbers (callRefused BearerBusy) = refl
+reply-numbers (callRefused StatusLength) = refl
 
 pub routed-numbers : (a : RouteAnswer) → isIn (routeNumber a) routeNumbers ≡ true
 unfolding isIn
@@ -110,6 +118,12 @@ routed-numbers (Routed route) = refl
 routed-numbers (routeRefused NotWellFormed) = refl
 routed-numbers (routeRefused NoDefault) = refl
 routed-numbers (routeRefused InvalidHeader) = refl
+
+pub status-written-numbers : (w : StatusWritten) → isIn (statusNumber w) statusNumbers ≡ true
+unfolding isIn
+status-written-numbers wroteStatus = refl
+status-written-numbers statusMalformed = refl
+status-written-numbers statusNoRoom = refl
 
 -- ".. header .."
 pub route-answers : (t : Table) (default : ℕ) (h : Header) → isIn (routeNumber (routeOf t default h)) routeNumbers ≡ true
@@ -136,6 +150,10 @@ stepped-is-readers value n = ap handedNumber (nth-steps value n) ∙ nth-number 
 pub writer-answers : (e : Element) (buffer : List ℕ) → isIn (writtenNumber (writeOf e buffer .written)) writerNumbers ≡ true
 writer-answers e buffer = written-numbers (writeOf e buffer .written)
 
+-- .. and the writing of a status, which is lent one too
+pub status-answers : (t : Table) (buffer : List ℕ) → isIn (statusNumber (writeStatusOf t buffer .written)) statusNumbers ≡ true
+status-answers t buffer = status-written-numbers (writeStatusOf t buffer .written)
+
 -- "A refusal gives its number and leaves the table .. unchanged (a transaction matched at step 2 is still closed)"
 pub refusal-leaves : (t : Table) (c : Call) → RefusalLeaves (leftBy t c) (outcomeOf t c)
 refusal-leaves t (activateDefault bearer) = activate-default-refused t bearer
@@ -144,6 +162,7 @@ refusal-leaves t (modify bearer transaction value) = modify-refused t bearer tra
 refusal-leaves t (deactivate bearer transaction) = deactivate-refused t bearer transaction
 refusal-leaves t (reject transaction cause) = reject-refused t transaction cause
 refusal-leaves t (start transaction bearer) = start-refused t transaction bearer
+refusal-leaves t (synchronise value) = synchronise-refused t value
 
 -- "A match is closed, whatever follows", of a message that is refused or is not: no bearer has the transaction open afterwards, and closing changed
 -- nothing else, since what follows is what the message does without a transaction in a table that is the same but for it
@@ -164,6 +183,7 @@ malformed-leaves t (modify bearer transaction value) e = modify-malformed t e be
 malformed-leaves t (deactivate bearer transaction) e = deactivate-malformed t e bearer transaction
 malformed-leaves t (reject transaction cause) e = reject-malformed t e transaction cause
 malformed-leaves t (start transaction bearer) e = start-malformed t e transaction bearer
+malformed-leaves t (synchronise value) e = synchronise-malformed t value e
 
 -- ".. and lent bytes unchanged": where the writer refuses, the buffer is as it was
 pub writer-leaves : (e : Element) (buffer : List ℕ) → (writtenNumber (writeOf e buffer .written) ≡ 0 → ⊥) → writeOf e buffer .buffer ≡ buffer
@@ -175,3 +195,6 @@ writer-leaves e buffer = go (given e) (leb (length (octetsOf e)) 255) (leb (leng
     go true true false r = refl
     go true false d r = refl
     go false c d r = refl
+
+pub status-writing-leaves : (t : Table) (buffer : List ℕ) → (statusNumber (writeStatusOf t buffer .written) ≡ 0 → ⊥) → writeStatusOf t buffer .buffer ≡ buffer
+status-writing-leaves = status-leaves

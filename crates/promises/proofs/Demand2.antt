@@ -25,6 +25,7 @@ use Rattle.element.specs.Meaning.{Octet, ElementInRange, ReadsAs, TooLongOrUnfr
 use Rattle.element.specs.Order.{InOrder}
 use Rattle.element.proofs.Theorems.{reader-42, reader-44, reader-45, writer-10, writer-11, writer-9, written-reads, writer-order}
 use Rattle.table.specs.declared.bearer.Table.{Table}
+use Rattle.table.specs.Bearers.{bearerCount}
 use Rattle.table.specs.Ranges.{TableInRange}
 use Rattle.table.specs.WellFormed.{wellFormed, WellFormed}
 use Rattle.table.proofs.Meaning.{well-says}
@@ -34,8 +35,17 @@ use Rattle.calls.specs.Reply.{numberOf}
 use Rattle.calls.proofs.Checks.{modify-numbers, activate-numbers, activate-default-numbers, deactivate-numbers, reject-numbers, start-numbers}
 use Rattle.calls.proofs.Release.{modify-releases, activate-releases, modify-follow, activate-follow}
 use Rattle.calls.proofs.Named.{modify-named-bearer, activate-named-bearer}
+use Rattle.calls.specs.declared.reply.Answer.the-variants.{Synchronised}
+use Rattle.calls.specs.Reply.{answered}
+use Rattle.calls.specs.Checks.{Identity, Active}
+use Rattle.status.specs.declared.write.StatusWritten.the-variants.{Wrote as wroteStatus}
+use Rattle.status.specs.Value.{statusOctets, shownActive}
+use Rattle.status.specs.Write.{statusNumber, writeStatusOf, StatusNumbered}
+use Rattle.status.specs.Take.{synchroniseOf, Synchronises}
+use Rattle.status.proofs.Theorems.{written-shows, status-numbers, synchronise-numbers, synchronise-leaves, own-status, synchronise-again, spare-ignored}
+use Rattle.status.proofs.Examples.{Examples, examples}
 use Rattle.promises.specs.Messages.{Message, modifies, activates, bearerNamed, transactionOf, valueOf, handled, numberGiven, Passes, MessageNumbered, CallNumbered, connectionFor, roleFor}
-use Rattle.promises.specs.Calls.{Call, activateDefault, activateDedicated, modify, deactivate, reject, start, outcomeOf}
+use Rattle.promises.specs.Calls.{Call, activateDefault, activateDedicated, modify, deactivate, reject, start, synchronise, outcomeOf}
 use Rattle.route.specs.Routes.{numberOf as routeNumber, routeOf}
 use Rattle.route.specs.Rule.{RouteNumbered}
 use Rattle.route.proofs.Theorems.{route-numbers}
@@ -58,6 +68,7 @@ numbers-given t r (modify bearer transaction value) = message-numbers t r (modif
 numbers-given t r (deactivate bearer transaction) = deactivate-numbers t r bearer transaction
 numbers-given t r (reject transaction cause) = reject-numbers t r transaction cause
 numbers-given t r (start transaction bearer) = start-numbers t r transaction bearer
+numbers-given t r (synchronise value) = synchronise-numbers t value r
 
 pub route-numbers-given : (t : Table) → TableInRange t → (default : ℕ) (h : Header) → RouteNumbered t default h (routeNumber (routeOf t default h))
 route-numbers-given t r default h = route-numbers t default h r
@@ -126,3 +137,36 @@ module _ (e : Element) (r : ElementInRange e) (buffer : List ℕ) where
   -- 9: "buffer too short", where neither holds
   pub writes-9 : (writtenNumber (writeOf e buffer .written) ≡ 9) ↔ ((ReadsAs e × (length (octetsOf e) ≤ longest)) × (length buffer < length (octetsOf e)))
   writes-9 = writer-9 e r buffer
+
+-- ---- Of the bearer status, document 02, 1/14
+-- "Refusals: 1 first, .. then 9 on writing"; those of taking one are in `numbers-given`
+pub status-numbers-given : (t : Table) → TableInRange t → (buffer : List ℕ) → StatusNumbered t buffer (statusNumber (writeStatusOf t buffer .written))
+status-numbers-given = status-numbers
+
+-- "1 for active": of every identity, and so "identities 0 to 4 written 0"
+pub status-shows-active : (t : Table) (buffer : List ℕ) → writeStatusOf t buffer .written ≡ wroteStatus
+    → (n : ℕ) → Says (shownActive (take statusOctets (writeStatusOf t buffer .buffer)) n) (Active t n)
+status-shows-active = written-shows
+
+-- "every active bearer shown inactive is deactivated locally, and a default takes its connection, transactions included, even where a dedicated one is shown
+-- active. Bearers active only at the network change nothing": a bearer is as it was where it and its default are shown active, and else idle with nothing
+pub status-taken : (t : Table) (value : List ℕ) → TableInRange t → synchroniseOf t value .reply .answer ≡ Synchronised
+    → (i : ℕ) → i < bearerCount → Synchronises t value (synchroniseOf t value .table) i
+status-taken = synchronise-leaves
+
+-- what was written, taken, changes nothing; and what was taken, taken again, gives the same table and reply
+pub status-own : (t : Table) → TableInRange t → (buffer : List ℕ) → writeStatusOf t buffer .written ≡ wroteStatus
+    → synchroniseOf t (take statusOctets (writeStatusOf t buffer .buffer)) ≡ answered t Synchronised
+status-own = own-status
+
+pub status-twice : (t : Table) (value : List ℕ) → TableInRange t → synchroniseOf (synchroniseOf t value .table) value ≡ synchroniseOf t value
+status-twice = synchronise-again
+
+-- "identities 0 to 4 .. ignored on reading": two values of one length that show the same of bearers' identities do the same
+pub status-spare : (t : Table) → TableInRange t → (value other : List ℕ) → length value ≡ length other
+    → ((n : ℕ) → Identity n → shownActive value n ≡ shownActive other n) → synchroniseOf t value ≡ synchroniseOf t other
+status-spare = spare-ignored
+
+-- "Bearers 5 and 6 give `60 00`", and more, computed
+pub status-examples : Examples
+status-examples = examples

@@ -26,13 +26,14 @@ use Rattle.table.proofs.Meaning.{well-says}
 use Rattle.calls.specs.Changes.{Sound, Unnamed}
 use Rattle.calls.proofs.Whole.{activate-default-sound, activate-dedicated-sound, modify-sound, deactivate-sound, reject-sound, start-sound}
 use Rattle.calls.proofs.Release.{modify-unnamed, activate-unnamed}
+use Rattle.status.proofs.Theorems.{synchronise-sound}
 use Rattle.route.specs.declared.answer.Route.{Route}
 use Rattle.route.specs.declared.answer.Answer.the-variants.{Routed}
 use Rattle.route.specs.Lists.{listOf}
 use Rattle.route.specs.Routes.{routeOn, routeOf}
 use Rattle.route.specs.Rule.{Right}
 use Rattle.route.proofs.Theorems.{route-right, right-one, route-says}
-use Rattle.promises.specs.Calls.{Call, activateDefault, activateDedicated, modify, deactivate, reject, start, Sent, outcomeOf, run, reached}
+use Rattle.promises.specs.Calls.{Call, activateDefault, activateDedicated, modify, deactivate, reject, start, synchronise, Sent, outcomeOf, run, reached}
 use Rattle.promises.specs.Messages.{Message, modifies, activates, bearerNamed, transactionOf, valueOf, handled, connectionFor}
 
 -- ---- "After any sequence of calls from the empty table", refused ones among them, the table is well formed
@@ -55,6 +56,7 @@ call-sound t k (modify bearer transaction value) s = modify-sound t k bearer tra
 call-sound t k (deactivate bearer transaction) s = deactivate-sound t k bearer transaction
 call-sound t k (reject transaction cause) s = reject-sound t k transaction cause
 call-sound t k (start transaction bearer) s = start-sound t k transaction bearer s
+call-sound t k (synchronise value) s = synchronise-sound t value k
 
 run-sound : (t : Table) → Sound t → (cs : List Call) → All Sent cs → Sound (run t cs)
 unfolding run

@@ -35,7 +35,7 @@ use Rattle.table.specs.declared.bearer.Table.{Table}
 use Rattle.table.specs.Bearers.{identityOf, emptyTable, build}
 use Rattle.table.specs.WellFormed.{filterFine, bearerFine, transactionsApart, transactionFrom, distinctTransactions, rowPrecedences, connectionPrecedences, distinctAt, distinctPrecedences, wellFormed}
 use Rattle.calls.specs.declared.reply.Answer.{Answer}
-use Rattle.calls.specs.declared.reply.Answer.the-variants.{Accept, Reject, Release, Reattach, Started, Closed, Refused}
+use Rattle.calls.specs.declared.reply.Answer.the-variants.{Accept, Reject, Release, Reattach, Started, Closed, Synchronised, Refused}
 use Rattle.calls.specs.declared.reply.FollowUps.{FollowUps}
 use Rattle.calls.specs.declared.reply.Reply.{Reply}
 use Rattle.calls.specs.Reply.{causeNumber, refusalNumber, followOf}
@@ -44,11 +44,13 @@ use Rattle.calls.specs.Lay.{old, takenBy, takes, conflict, placed, conflictIn, 
 use Rattle.element.specs.Head.{headFine}
 use Rattle.calls.specs.Modify.{deletedFilters, deletedTft, modifyRead, modifyNamed, modifyOf}
 use Rattle.calls.specs.Others.{activateDefaultOf, activateRead, activateNamed, activateDedicatedOf, deactivateOf, rejectOf, startOf}
+use Rattle.status.specs.Value.{shownActive}
+use Rattle.status.specs.Take.{goneBy, synchroniseOf}
 use Rattle.route.specs.declared.answer.Route.the-variants.{Bearer}
 use Rattle.route.specs.declared.answer.Answer.the-variants.{Routed}
 use Rattle.route.specs.Lists.{placeHas, bearerHas, entryIn, entryAt, entriesOf}
 use Rattle.route.specs.Routes.{filterOf, entryFits, firstFit, uplinkAt, hasUplink, otherwiseOf, routeOn, routeOf}
-use Rattle.promises.specs.Calls.{Call, activateDefault, activateDedicated, modify, deactivate, reject, start, outcomeOf, run, replies, reached}
+use Rattle.promises.specs.Calls.{Call, activateDefault, activateDedicated, modify, deactivate, reject, start, synchronise, outcomeOf, run, replies, reached}
 
 -- ---- Tables and filters of the samples
 -- bearers 5, 6, .. in these roles, the others idle; no transaction is open
@@ -108,6 +110,7 @@ pub data Said : Type 0 where
   reattaches : Said
   starts : (transaction : ℕ) → Said
   closes : (transaction : ℕ) → Said
+  synchronises : Said
   refuses : (number : ℕ) → Said
 
 abbrev said : Answer → Said
@@ -117,6 +120,7 @@ said (Release default) = releases default
 said Reattach = reattaches
 said (Started transaction) = starts transaction
 said (Closed transaction) = closes transaction
+said Synchronised = synchronises
 said (Refused refusal) = refuses (refusalNumber refusal)
 
 pub record Told : Type 0 where
@@ -179,7 +183,7 @@ sampleElements =
 abbrev Samples : Type 0
 Samples = map shown sampleElements ≡ map due sampleElements
 
--- ---- A sequence of calls from the empty table, refused ones among them. Each of the six kinds is called twice or more, with different replies, so that
+-- ---- A sequence of calls from the empty table, refused ones among them. Each of the seven kinds is called twice or more, with different replies, so that
 -- none may refuse everything or always reply the same
 -- a call, and what it is to reply
 pub data Turn : Type 0 where
@@ -222,6 +226,11 @@ ending =
     -- "always accept with the received identity"; "a default takes its connection along", here 8
     ∷ turn (deactivate 6 0) (accepts 6) []
     ∷ turn (deactivate 5 0) (accepts 5) []
+    -- document 02: "12 for a value that isn't two octets"; 9 is shown inactive and goes with its transaction, and identities 0 to 4 are ignored
+    ∷ turn (activateDefault 9) (accepts 9) []
+    ∷ turn (start 9 9) (starts 9) []
+    ∷ turn (synchronise (0x80 ∷ [])) (refuses 12) []
+    ∷ turn (synchronise (0x9F ∷ 0x00 ∷ [])) synchronises []
     ∷ []
 
 -- version 4, UDP, to this remote port
@@ -241,7 +250,7 @@ Sequence =
 
 -- ---- Both are computed, by opening the definitions that they are said in
 computed : Samples × Sequence
-unfolding allBelow anyBelow picks tab pad every isIn repeats sameUnder beFrom excluded added held wellCoded emptyPlace validHeader agreesTransport agreesNetwork fits sample fittable lengthOf componentOf contentsFrom contentsOf splitOf parameters restFits framedBy framedOf noFilters noMarks codedOf elementEntries twice inPlaces marked readValue readElement filterFine bearerFine transactionsApart transactionFrom distinctTransactions joined rowPrecedences connectionPrecedences distinctAt distinctPrecedences wellFormed opensAt isOpen closed ofConnection deletedIn holdsIn staysIn empties old takenBy takes conflict placed conflictIn loses placedIn losesAt conflictOnDefault follows released followers otherAt onlyConnection layWithin layOf headFine deletedFilters deletedTft modifyRead modifyNamed modifyOf dropped isAt ownerOf run replies emptyTable activateDefaultOf activateRead activateNamed activateDedicatedOf deactivateOf rejectOf startOf lastBelow uplink placeHas bearerHas entryIn entryAt entriesOf filterOf entryFits firstFit uplinkAt hasUplink otherwiseOf routeOn routeOf
+unfolding allBelow anyBelow picks tab pad every isIn repeats sameUnder beFrom excluded added held wellCoded emptyPlace validHeader agreesTransport agreesNetwork fits sample fittable lengthOf componentOf contentsFrom contentsOf splitOf parameters restFits framedBy framedOf noFilters noMarks codedOf elementEntries twice inPlaces marked readValue readElement filterFine bearerFine transactionsApart transactionFrom distinctTransactions joined rowPrecedences connectionPrecedences distinctAt distinctPrecedences wellFormed opensAt isOpen closed ofConnection deletedIn holdsIn staysIn empties old takenBy takes conflict placed conflictIn loses placedIn losesAt conflictOnDefault follows released followers otherAt onlyConnection layWithin layOf headFine deletedFilters deletedTft modifyRead modifyNamed modifyOf dropped isAt ownerOf run replies emptyTable activateDefaultOf activateRead activateNamed activateDedicatedOf deactivateOf rejectOf startOf lastBelow uplink placeHas bearerHas entryIn entryAt entriesOf filterOf entryFits firstFit uplinkAt hasUplink otherwiseOf routeOn routeOf shownActive goneBy synchroniseOf
 computed = (refl, (refl, refl, refl, refl, refl))
 
 pub samples : Samples

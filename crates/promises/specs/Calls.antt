@@ -1,4 +1,4 @@
--- The six calls on a table, as values, and a sequence of them; the numbers that may be given.
+-- The calls on a table, as values, and a sequence of them: document 01's six, and the taking of a status (document 02, 1/14). The numbers that may be given.
 use Prim.Native.Nat.{ℕ, _^_, _<_}
 use mathlib.Core.Bool.{not, _&&_}
 use mathlib.Core.List.{List, [], _∷_}
@@ -13,6 +13,7 @@ use Rattle.calls.specs.declared.reply.Outcome.{Outcome}
 use Rattle.calls.specs.Steps.{closed}
 use Rattle.calls.specs.Modify.{mismatch, modifyOf}
 use Rattle.calls.specs.Others.{activateDefaultOf, activateDedicatedOf, deactivateOf, rejectOf, startOf}
+use Rattle.status.specs.Take.{synchroniseOf}
 
 -- a call, with any arguments
 pub data Call : Type 0 where
@@ -22,6 +23,7 @@ pub data Call : Type 0 where
   deactivate : (bearer transaction : ℕ) → Call
   reject : (transaction cause : ℕ) → Call
   start : (transaction bearer : ℕ) → Call
+  synchronise : (value : List ℕ) → Call
 
 -- its outcome, by the definition that the contract of the function cites
 abbrev pub outcomeOf : Table → Call → Outcome
@@ -31,6 +33,7 @@ outcomeOf t (modify bearer transaction value) = modifyOf t bearer transaction va
 outcomeOf t (deactivate bearer transaction) = deactivateOf t bearer transaction
 outcomeOf t (reject transaction cause) = rejectOf t transaction cause
 outcomeOf t (start transaction bearer) = startOf t transaction bearer
+outcomeOf t (synchronise value) = synchroniseOf t value
 
 -- each table is fed into the next call; refused calls are in the list like any other
 unfoldable pub run : Table → List Call → Table
@@ -53,6 +56,7 @@ Sent (modify bearer transaction value) = All Octet value
 Sent (deactivate bearer transaction) = Unit {0}
 Sent (reject transaction cause) = Unit {0}
 Sent (start transaction bearer) = transaction < 2 ^ 8
+Sent (synchronise value) = Unit {0}
 
 -- "Numbers given", of those that a message may give; 0 where nothing is refused
 abbrev pub messageNumbers : List ℕ
@@ -66,8 +70,9 @@ numbersOf (modify bearer transaction value) = messageNumbers
 numbersOf (deactivate bearer transaction) = 0 ∷ 1 ∷ []
 numbersOf (reject transaction cause) = 0 ∷ 1 ∷ 3 ∷ []
 numbersOf (start transaction bearer) = 0 ∷ 1 ∷ 4 ∷ 5 ∷ 6 ∷ 7 ∷ []
+numbersOf (synchronise value) = 0 ∷ 1 ∷ 12 ∷ []
 
--- .. those that the reader, the writer, the answer to any call and a route may have
+-- .. those that the reader, the writer, the answer to any call, a route and the writing of a status may have
 abbrev pub readerNumbers : List ℕ
 readerNumbers = 0 ∷ 42 ∷ 44 ∷ 45 ∷ []
 
@@ -75,10 +80,13 @@ abbrev pub writerNumbers : List ℕ
 writerNumbers = 0 ∷ 10 ∷ 11 ∷ 9 ∷ []
 
 abbrev pub replyNumbers : List ℕ
-replyNumbers = 0 ∷ 1 ∷ 3 ∷ 4 ∷ 5 ∷ 6 ∷ 7 ∷ 41 ∷ 42 ∷ 43 ∷ 44 ∷ 45 ∷ 47 ∷ []
+replyNumbers = 0 ∷ 1 ∷ 3 ∷ 4 ∷ 5 ∷ 6 ∷ 7 ∷ 12 ∷ 41 ∷ 42 ∷ 43 ∷ 44 ∷ 45 ∷ 47 ∷ []
 
 abbrev pub routeNumbers : List ℕ
 routeNumbers = 0 ∷ 1 ∷ 8 ∷ 2 ∷ []
+
+abbrev pub statusNumbers : List ℕ
+statusNumbers = 0 ∷ 1 ∷ 9 ∷ []
 
 -- the table as a refusal leaves it: "A match is closed, whatever follows."
 abbrev pub matchedIn : Table → ℕ → Table
@@ -91,3 +99,4 @@ leftBy t (modify bearer transaction value) = matchedIn t transaction
 leftBy t (deactivate bearer transaction) = t
 leftBy t (reject transaction cause) = t
 leftBy t (start transaction bearer) = t
+leftBy t (synchronise value) = t

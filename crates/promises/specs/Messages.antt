@@ -10,7 +10,8 @@ use Rattle.calls.specs.Reply.{numberOf}
 use Rattle.calls.specs.Steps.{home}
 use Rattle.calls.specs.Checks.{DefaultNumbered, DeactivateNumbered, RejectNumbered, StartNumbered}
 use Rattle.calls.specs.Checks.{Active, Linkable, Permitted, IsCreate, Empties, Passed, Numbered}
-use Rattle.promises.specs.Calls.{Call, activateDefault, activateDedicated, modify, deactivate, reject, start, outcomeOf}
+use Rattle.status.specs.Take.{SynchroniseNumbered}
+use Rattle.promises.specs.Calls.{Call, activateDefault, activateDedicated, modify, deactivate, reject, start, synchronise, outcomeOf}
 
 pub data Message : Type 0 where
   modifies : (bearer transaction : ℕ) → (value : List ℕ) → Message
@@ -84,3 +85,4 @@ CallNumbered t (modify bearer transaction value) = MessageNumbered t (modifies b
 CallNumbered t (deactivate bearer transaction) = DeactivateNumbered t
 CallNumbered t (reject transaction cause) = RejectNumbered t transaction
 CallNumbered t (start transaction bearer) = StartNumbered t transaction bearer
+CallNumbered t (synchronise value) = SynchroniseNumbered t value
