@@ -2,7 +2,7 @@
 use crate::scan::Scan;
 use filter::Header;
 
-// `count` is how many octets of an element's value were read from the line.
+// `count`, and the number of `Synchronise`, is how many octets were read from the line's HEX.
 pub enum Call {
     Default(u8),
     Dedicated {
@@ -19,6 +19,7 @@ pub enum Call {
     Deactivate(u8, u8),
     Start(u8, u8),
     Reject(u8, u8),
+    Synchronise(usize),
 }
 
 // A filter of the line: its place, what it has before its components, and where these stand in the line.
@@ -60,6 +61,8 @@ pub enum Question {
     Element(usize),
     Rewrite(usize, usize),
     Emit(usize),
+    Status(usize),
+    Compare(usize),
 }
 
 pub enum Command {

@@ -71,14 +71,17 @@ pub fn put_element(out: &mut [u8], at: usize, e: Element) -> usize {
     put_line(out, o, b"end")
 }
 
+// The whole buffer, of which the first `n` octets were written.
+pub fn put_wrote(out: &mut [u8], at: usize, n: usize, buffer: &[u8]) -> usize {
+    let o = put_named(out, at, b"wrote", n as u64);
+    let o = put(out, o, b' ');
+    let o = put_hex(out, o, buffer);
+    put_end(out, o)
+}
+
 pub fn put_written(out: &mut [u8], at: usize, written: Written, buffer: &[u8]) -> usize {
     match written {
-        Written::Wrote(n) => {
-            let o = put_named(out, at, b"wrote", n as u64);
-            let o = put(out, o, b' ');
-            let o = put_hex(out, o, buffer);
-            put_end(out, o)
-        }
+        Written::Wrote(n) => put_wrote(out, at, n, buffer),
         Written::Refused(_) => put_refused(out, at, written_number(written)),
     }
 }

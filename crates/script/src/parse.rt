@@ -34,10 +34,11 @@ use filter::Address;
 use filter::Header;
 
 // The words that a line begins with, and their places.
-const WORDS: [u8; 270] = *b"\
+const WORDS: [u8; 315] = *b"\
     default        dedicated      modify         deactivate     start          reject         \
     route          check          show           element        rewrite        emit           \
-    force          place          compose        filter         identifier     echo           ";
+    force          place          compose        filter         identifier     echo           \
+    status         synchronise    compare        ";
 
 const DEFAULT: usize = 0;
 
@@ -74,6 +75,12 @@ const FILTER: usize = 15;
 const IDENTIFIER: usize = 16;
 
 const ECHO: usize = 17;
+
+const STATUS: usize = 18;
+
+const SYNCHRONISE: usize = 19;
+
+const COMPARE: usize = 20;
 
 // The words of a role, and their places.
 const ROLES: [u8; 45] = *b"idle           default        dedicated      ";
@@ -299,6 +306,17 @@ fn parse_element(line: &[u8], value: Scan) -> Command {
     parse_bare(line, value, Question::Element(size(value.value)))
 }
 
+fn parse_compare(line: &[u8], value: Scan) -> Command {
+    parse_bare(line, value, Question::Compare(size(value.value)))
+}
+
+fn parse_synchronise(line: &[u8], value: Scan) -> Command {
+    if !whole(line, value) {
+        return bad();
+    }
+    Command::Call(Call::Synchronise(size(value.value)))
+}
+
 fn parse_rewrite(line: &[u8], value: Scan) -> Command {
     let room = number(line, value, LARGEST_ROOM);
     parse_bare(
@@ -360,6 +378,11 @@ fn parse_emit(line: &[u8], s: Scan) -> Command {
     parse_bare(line, room, Question::Emit(size(room.value)))
 }
 
+fn parse_status(line: &[u8], s: Scan) -> Command {
+    let room = number(line, s, LARGEST_ROOM);
+    parse_bare(line, room, Question::Status(size(room.value)))
+}
+
 fn parse_echo(line: &[u8], s: Scan) -> Command {
     let word = listed(&SWITCHES, line, s);
     let switch = size(word.value);
@@ -410,6 +433,9 @@ fn parse_word(word: usize, line: &[u8], s: Scan, value: Scan) -> Command {
         FILTER => parse_filter(line, s),
         IDENTIFIER => parse_identifier(line, s),
         ECHO => parse_echo(line, s),
+        STATUS => parse_status(line, s),
+        SYNCHRONISE => parse_synchronise(line, value),
+        COMPARE => parse_compare(line, value),
         _ => bad(),
     }
 }

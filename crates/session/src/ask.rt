@@ -1,11 +1,14 @@
 // What a line asks and changes nothing by.
 use crate::replies::put_route;
 use crate::replies::put_well_formed;
+use crate::statuses::put_compared;
+use crate::statuses::put_status;
 use crate::tables::put_table;
 use crate::times::check_times;
 use crate::times::read_times;
 use crate::times::rewrite_times;
 use crate::times::route_times;
+use crate::times::status_times;
 use crate::times::write_times;
 use element::Element;
 use filter::Header;
@@ -16,6 +19,7 @@ use script::elements::put_element;
 use script::elements::put_switch;
 use script::elements::put_written;
 use script::scan::part;
+use status::value::STATUS_OCTETS;
 use table::Table;
 
 const LARGEST_ROOM: usize = 512;
@@ -66,6 +70,20 @@ fn ask_emit(e: Element, n: usize, times: u64, out: &mut [u8], at: usize) -> usiz
     put_written(out, at, written, room)
 }
 
+fn ask_status(t: Table, n: usize, times: u64, out: &mut [u8], at: usize) -> usize {
+    let mut space = [0u8; LARGEST_ROOM];
+    let room = front(&mut space, n);
+    let written = status_times(t, room, times);
+    put_status(out, at, written, room)
+}
+
+fn ask_compare(t: Table, value: &[u8], times: u64, out: &mut [u8], at: usize) -> usize {
+    let mut space = [0u8; STATUS_OCTETS];
+    let ours: &mut [u8] = &mut space;
+    let written = status_times(t, ours, times);
+    put_compared(out, at, written, ours, value)
+}
+
 // The place in the buffer after the reply. `octets` begin with those of the line's HEX, and `lines` is the number of the line.
 pub(crate) fn answer(
     t: Table,
@@ -87,5 +105,7 @@ pub(crate) fn answer(
         Question::Element(count) => ask_element(part(octets, 0, count), times, out, at),
         Question::Rewrite(count, n) => ask_rewrite(part(octets, 0, count), n, times, out, at),
         Question::Emit(n) => ask_emit(e, n, times, out, at),
+        Question::Status(n) => ask_status(t, n, times, out, at),
+        Question::Compare(count) => ask_compare(t, part(octets, 0, count), times, out, at),
     }
 }

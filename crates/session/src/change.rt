@@ -5,6 +5,7 @@ use crate::times::default_times;
 use crate::times::modify_times;
 use crate::times::reject_times;
 use crate::times::start_times;
+use crate::times::synchronise_times;
 use calls::Outcome;
 use filter::Filter;
 use filter::component::PLACES;
@@ -46,6 +47,7 @@ pub(crate) fn call_times(t: Table, call: Call, octets: &[u8], times: u64) -> Out
         Call::Deactivate(bearer, transaction) => deactivate_times(t, bearer, transaction, times),
         Call::Start(transaction, bearer) => start_times(t, transaction, bearer, times),
         Call::Reject(transaction, cause) => reject_times(t, transaction, cause, times),
+        Call::Synchronise(count) => synchronise_times(t, part(octets, 0, count), times),
     }
 }
 

@@ -4,6 +4,7 @@ mod change;
 mod compose;
 mod replies;
 mod run;
+mod statuses;
 mod tables;
 mod times;
 

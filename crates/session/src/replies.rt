@@ -13,7 +13,8 @@ use script::text::put_text;
 use script::text::wide;
 use table::bearer::BEARERS;
 
-fn put_next_follow(out: &mut [u8], at: usize, wanted: bool, bearer: u8) -> usize {
+// One more of a list, if it is wanted there.
+pub(crate) fn put_next(out: &mut [u8], at: usize, wanted: bool, bearer: u8) -> usize {
     if !wanted {
         return at;
     }
@@ -24,7 +25,7 @@ fn put_next_follow(out: &mut [u8], at: usize, wanted: bool, bearer: u8) -> usize
 fn put_follow(out: &mut [u8], at: usize, follow: FollowUps) -> usize {
     let mut o = at;
     for i in 0..BEARERS {
-        o = put_next_follow(out, o, (i as u64) < wide(follow.count), follow.bearers[i]);
+        o = put_next(out, o, (i as u64) < wide(follow.count), follow.bearers[i]);
     }
     o
 }
@@ -36,6 +37,12 @@ fn put_accept(out: &mut [u8], at: usize, bearer: u8, follow: FollowUps) -> usize
     }
     let o = put_text(out, o, b" follow-up");
     let o = put_follow(out, o, follow);
+    put_end(out, o)
+}
+
+fn put_synchronised(out: &mut [u8], at: usize, gone: FollowUps) -> usize {
+    let o = put_text(out, at, b"synchronised");
+    let o = put_follow(out, o, gone);
     put_end(out, o)
 }
 
@@ -57,6 +64,7 @@ pub(crate) fn put_reply(out: &mut [u8], at: usize, reply: Reply) -> usize {
         calls::Answer::Reattach => put_line(out, at, b"re-attach"),
         calls::Answer::Started(t) => put_named_line(out, at, b"started", t as u64),
         calls::Answer::Closed(t) => put_named_line(out, at, b"closed", t as u64),
+        calls::Answer::Synchronised => put_synchronised(out, at, follow),
         calls::Answer::Refused(_) => put_refused(out, at, number),
     }
 }

@@ -1,10 +1,12 @@
 // What a line asks for, as often as it asks.
+use crate::statuses::gone_between;
 use calls::FollowUps;
 use calls::Outcome;
 use calls::Reply;
 use element::Element;
 use element::Written;
 use filter::Header;
+use status::StatusWritten;
 use table::Table;
 use table::bearer::BEARERS;
 
@@ -108,6 +110,28 @@ pub(crate) fn reject_times(mut t: Table, transaction: u8, cause: u8, times: u64)
     Outcome { table: t, reply }
 }
 
+// The list of the reply, which the call leaves empty, has here the bearers that the last time deactivated.
+pub(crate) fn synchronise_times(mut t: Table, value: &[u8], times: u64) -> Outcome {
+    let mut before = t;
+    let mut reply = no_reply();
+    let mut i = 0;
+    while i < times {
+        before = t;
+        let outcome = status::take::synchronise(t, value);
+        t = outcome.table;
+        reply = outcome.reply;
+        i += 1;
+    }
+    let answer = reply.answer;
+    Outcome {
+        table: t,
+        reply: Reply {
+            answer,
+            follow: gone_between(before, t),
+        },
+    }
+}
+
 // Called in two places, so that it stays a function of its own: taken into the loop, it is compiled with the table in pieces.
 pub(crate) fn route_times(t: Table, default: u8, header: Header, times: u64) -> route::Answer {
     let mut answer = route::choose::route(t, default, header);
@@ -157,6 +181,21 @@ pub(crate) fn write_times(e: Element, room: &mut [u8], times: u64) -> Written {
     let mut i = 1;
     while i < times {
         written = write_once(e, room);
+        i += 1;
+    }
+    written
+}
+
+fn write_status_once(t: Table, room: &mut [u8]) -> StatusWritten {
+    fill(room);
+    status::write::write_status(t, room)
+}
+
+pub(crate) fn status_times(t: Table, room: &mut [u8], times: u64) -> StatusWritten {
+    let mut written = write_status_once(t, room);
+    let mut i = 1;
+    while i < times {
+        written = write_status_once(t, room);
         i += 1;
     }
     written
