@@ -10,5 +10,6 @@ pub mod random;
 pub mod route;
 pub mod script;
 pub mod session;
+pub mod status;
 pub mod table;
 pub mod text;

@@ -34,6 +34,9 @@ pub enum Call {
     Reject { transaction: u8, cause: u8 },
     Route { default: u8, header: Header },
     Check,
+    Status { size: usize },
+    Synchronise { octets: Octets },
+    Compare { octets: Octets },
     Element { octets: Octets },
     Rewrite { octets: Octets, size: usize },
     Compose { kind: Kind },
@@ -212,6 +215,9 @@ fn table_call(name: &[u8], words: &mut Words) -> Option<Call> {
         b"reject" => Some(Call::Reject { transaction: words.octet()?, cause: words.octet()? }),
         b"route" => Some(Call::Route { default: words.octet()?, header: header(words)? }),
         b"check" => Some(Call::Check),
+        b"status" => Some(Call::Status { size: words.size()? }),
+        b"synchronise" => Some(Call::Synchronise { octets: words.octets()? }),
+        b"compare" => Some(Call::Compare { octets: words.octets()? }),
         _ => None,
     }
 }

@@ -6,6 +6,7 @@ use crate::calls::{self, Answer, NOT_WELL_FORMED};
 use crate::element::{self, Operation};
 use crate::route;
 use crate::script::{asked, Asked, Call, LARGEST_BUFFER};
+use crate::status;
 use crate::table::Table;
 use crate::text::{self, Text};
 
@@ -70,6 +71,9 @@ impl Session {
         match call {
             Call::Check => check(&self.table, out),
             Call::Route { default, header } => text::route(out, &route::route(&self.table, *default, header)),
+            Call::Status { size } => written(*size, out, |buffer| status::write(&self.table, buffer)),
+            Call::Synchronise { octets } => synchronise(&mut self.table, octets.slice(), out),
+            Call::Compare { octets } => compare(&self.table, octets.slice(), out),
             Call::Element { octets } => element(octets.slice(), out),
             Call::Rewrite { octets, size } => rewrite(octets.slice(), *size, out),
             Call::Compose { .. } | Call::Filter { .. } | Call::Identifier { .. } | Call::Emit { .. } => {
@@ -123,7 +127,7 @@ impl Session {
                 composed.identifiers |= 1 << identifier;
                 text::line(out, "identifier ", identifier);
             }
-            Call::Emit { size } => written(composed, size, out),
+            Call::Emit { size } => written(size, out, |buffer| element::write(composed, buffer)),
             _ => return None,
         }
         Some(())
@@ -157,6 +161,20 @@ fn check(table: &Table, out: &mut Text) {
     }
 }
 
+fn synchronise(table: &mut Table, octets: &[u8], out: &mut Text) {
+    match status::synchronise(table, octets) {
+        Ok(gone) => text::synchronised(out, gone),
+        Err(number) => text::line(out, "refused ", number),
+    }
+}
+
+fn compare(table: &Table, octets: &[u8], out: &mut Text) {
+    match status::compare(table, octets) {
+        Ok(comparison) => text::comparison(out, &comparison),
+        Err(number) => text::line(out, "refused ", number),
+    }
+}
+
 fn read_unheard(call: &Call) {
     if let Call::Element { octets } = call {
         let _ = black_box(element::read(octets.slice()));
@@ -172,14 +190,15 @@ fn element(octets: &[u8], out: &mut Text) {
 
 fn rewrite(octets: &[u8], size: usize, out: &mut Text) {
     match element::read(octets) {
-        Ok(operation) => written(&operation, size, out),
+        Ok(operation) => written(size, out, |buffer| element::write(&operation, buffer)),
         Err(cause) => text::line(out, "cause ", cause),
     }
 }
 
-fn written(operation: &Operation, size: usize, out: &mut Text) {
+/// What a writer makes of a buffer of that size.
+fn written(size: usize, out: &mut Text, write: impl FnOnce(&mut [u8]) -> Result<usize, u8>) {
     let mut buffer = [BEFORE; LARGEST_BUFFER];
-    match element::write(operation, &mut buffer[..size]) {
+    match write(&mut buffer[..size]) {
         Ok(length) => {
             text::words(out, "wrote ");
             text::number(out, length as u64);

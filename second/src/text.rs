@@ -4,6 +4,7 @@ use crate::calls::{Answer, Identities};
 use crate::element::{filters_in, Kind, Operation};
 use crate::filter::{Component, Filter, Row};
 use crate::route::Route;
+use crate::status::Comparison;
 use crate::table::{identities, Bearer, Role, Table};
 
 pub type Text = Vec<u8>;
@@ -72,10 +73,31 @@ fn accept(text: &mut Text, bearer: u8, follow_up: Identities) {
     if follow_up != 0 {
         words(text, " follow-up");
     }
-    for identity in identities().filter(|identity| follow_up >> identity & 1 == 1) {
+    bearers(text, follow_up);
+    words(text, "\n");
+}
+
+/// The identities of a set, rising, each after a space.
+fn bearers(text: &mut Text, set: Identities) {
+    for identity in identities().filter(|identity| set >> identity & 1 == 1) {
         words(text, " ");
         number(text, identity);
     }
+}
+
+pub fn synchronised(text: &mut Text, gone: Identities) {
+    words(text, "synchronised");
+    bearers(text, gone);
+    words(text, "\n");
+}
+
+pub fn comparison(text: &mut Text, comparison: &Comparison) {
+    words(text, "both");
+    bearers(text, comparison.both);
+    words(text, " here");
+    bearers(text, comparison.here);
+    words(text, " network");
+    bearers(text, comparison.network);
     words(text, "\n");
 }
 
