@@ -5,7 +5,7 @@ use crate::session::Session;
 use crate::text::Text;
 
 /// Every form that the bench language has, numbers and lists left out but for those that are the point of the reply.
-pub const FORMS: [&str; 59] = [
+pub const FORMS: [&str; 80] = [
     "accept",
     "accept follow-up",
     "reject 41",
@@ -65,12 +65,64 @@ pub const FORMS: [&str; 59] = [
     "echo on",
     "echo off",
     "bad line",
+    "status: wrote",
+    "status: refused 1",
+    "status: refused 9",
+    "status: bad line",
+    "synchronise: synchronised",
+    "synchronise: synchronised E",
+    "synchronise: synchronised E..",
+    "synchronise: refused 1",
+    "synchronise: refused 12",
+    "synchronise: bad line",
+    "compare: both here network",
+    "compare: both here network E",
+    "compare: both here E network",
+    "compare: both here E network E",
+    "compare: both E here network",
+    "compare: both E here network E",
+    "compare: both E here E network",
+    "compare: both E here E network E",
+    "compare: refused 1",
+    "compare: refused 12",
+    "compare: bad line",
 ];
+
+/// The lines whose replies are counted apart, since others give some of the same.
+const COUNTED_APART: [&str; 3] = ["status", "synchronise", "compare"];
 
 const LEAST: usize = 10;
 
+/// A line of output that is a reply, and the word of the line that it replies to.
+#[derive(Clone, PartialEq, Eq, Debug)]
+pub struct Reply {
+    word: String,
+    line: String,
+}
+
+impl Reply {
+    fn form(&self) -> String {
+        let form = form(&self.line);
+        if COUNTED_APART.contains(&self.word.as_str()) {
+            format!("{}: {form}", self.word)
+        } else {
+            form
+        }
+    }
+}
+
+/// The word that says what a line asks for: its first one, or the one after `repeat N`.
+fn word(line: &[u8]) -> String {
+    let mut words = line.split(|octet| *octet == b' ').filter(|word| !word.is_empty());
+    let word = match words.next() {
+        Some(b"repeat") => words.nth(1),
+        first => first,
+    };
+    String::from_utf8_lossy(word.unwrap_or_default()).into_owned()
+}
+
 /// The form of a line of output, or the line itself where it has none.
-pub fn form(line: &str) -> String {
+fn form(line: &str) -> String {
     let words: Vec<&str> = line.split(' ').collect();
     match words.as_slice() {
         ["accept", _, "follow-up", _, ..] => "accept follow-up".to_string(),
@@ -86,6 +138,9 @@ pub fn form(line: &str) -> String {
             filter_form(words.get(8).unwrap_or(&""))
         }
         ["bad", "line", _] => "bad line".to_string(),
+        ["synchronised", _] => "synchronised E".to_string(),
+        ["synchronised", _, _, ..] => "synchronised E..".to_string(),
+        ["both", ..] => lists_form(&words),
         _ => line.to_string(),
     }
 }
@@ -100,22 +155,35 @@ fn filter_form(first_component: &str) -> String {
     format!("  filter {name}")
 }
 
+/// Every list that is not empty is an E.
+fn lists_form(words: &[&str]) -> String {
+    let is_name = |word: &str| matches!(word, "both" | "here" | "network");
+    let mut form: Vec<&str> = words.iter().map(|word| if is_name(word) { word } else { "E" }).collect();
+    form.dedup();
+    form.join(" ")
+}
+
 /// All that a script gives, and the replies in it alone. An echoed line may read like a reply, so the two are told apart as they are made.
-pub fn played(mut script: &[u8]) -> (Text, Text) {
+pub fn played(mut script: &[u8]) -> (Text, Vec<Reply>) {
     let (mut session, mut line) = (Session::default(), Line::new(LONGEST_LINE));
-    let (mut output, mut replies) = (Text::new(), Text::new());
+    let (mut output, mut replies) = (Text::new(), Vec::new());
     while line.next(&mut script).expect("a slice is read") {
         session.write_echo(&line.octets, line.is_too_long(), &mut output);
         let start = output.len();
         session.do_line(line.number, &line.octets, line.is_too_long(), &mut output);
-        replies.extend_from_slice(&output[start..]);
+        replies.extend(replies_in(&output[start..], &line.octets));
     }
     (output, replies)
 }
 
+fn replies_in(output: &[u8], asked: &[u8]) -> Vec<Reply> {
+    let lines = String::from_utf8_lossy(output);
+    lines.lines().map(|line| Reply { word: word(asked), line: line.to_string() }).collect()
+}
+
 /// How often each form stands in replies, and what is wrong: lines of no form, and forms too rare.
-pub fn count(replies: &[u8]) -> (Vec<(&'static str, usize)>, Vec<String>) {
-    let forms: Vec<String> = String::from_utf8_lossy(replies).lines().map(form).collect();
+pub fn count(replies: &[Reply]) -> (Vec<(&'static str, usize)>, Vec<String>) {
+    let forms: Vec<String> = replies.iter().map(Reply::form).collect();
     let times = |wanted: &str| forms.iter().filter(|form| *form == wanted).count();
     let counts: Vec<(&str, usize)> = FORMS.iter().map(|wanted| (*wanted, times(wanted))).collect();
     let unknown = forms.iter().filter(|form| !FORMS.contains(&form.as_str()));
@@ -146,6 +214,35 @@ mod tests {
             output,
             b"echo on\nwell formed\nbad line 2\ncheck\nwell formed\necho off\necho off\nend\n"
         );
-        assert_eq!(replies, b"echo on\nbad line 2\nwell formed\necho off\nend\n");
+        let replies: Vec<String> = replies.into_iter().map(|reply| reply.line).collect();
+        assert_eq!(replies, ["echo on", "bad line 2", "well formed", "echo off", "end"]);
+    }
+
+    fn forms(script: &str) -> Vec<String> {
+        played(script.as_bytes()).1.iter().map(Reply::form).collect()
+    }
+
+    #[test]
+    fn replies_to_the_lines_of_the_status_are_told_apart() {
+        assert_eq!(forms("emit 2\ncheck\n"), ["bad line", "well formed"]);
+        assert_eq!(forms("status 2\nstatus 1\nstatus"), ["wrote", "refused 9", "bad line"].map(of("status")));
+        assert_eq!(forms("  repeat 2   compare -\nrepeat compare -\n"), ["compare: refused 12", "bad line"]);
+        assert_eq!(forms("force 5 idle 1\nsynchronise -\n"), ["forced", "synchronise: refused 1"]);
+    }
+
+    #[test]
+    fn lists_are_empty_or_not() {
+        let table = "default 5\ndefault 6\ndefault 7\ndefault 12\n";
+        let after = |lines: &str| forms(&format!("{table}{lines}"))[4..].to_vec();
+        let gone = after("synchronise FFFF\nsynchronise FF0F\nsynchronise 0000");
+        assert_eq!(gone, ["synchronised", "synchronised E", "synchronised E.."].map(of("synchronise")));
+        let lists = after("compare FFFF\ncompare E010\ncompare 0011\ncompare 0001\ncompare 0000");
+        let expected = ["both E here network E", "both E here network", "both E here E network E"];
+        assert_eq!(lists[..3], expected.map(of("compare")));
+        assert_eq!(lists[3..], ["both here E network E", "both here E network"].map(of("compare")));
+    }
+
+    fn of(word: &str) -> impl Fn(&str) -> String + '_ {
+        move |form| format!("{word}: {form}")
     }
 }

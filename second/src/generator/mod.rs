@@ -4,6 +4,7 @@ mod echo;
 mod elements;
 mod headers;
 mod rubbish;
+mod status;
 
 use crate::element::Kind;
 use crate::filter::{Filter, PLACES};
@@ -158,19 +159,20 @@ impl Generator {
     }
 
     fn table_call(&mut self) {
-        let more_defaults = match self.bearers(|role| role == Role::Default).len() {
-            0 => 60,
-            1 => 4,
-            _ => 1,
+        let (more_defaults, more_status) = match self.bearers(|role| role == Role::Default).len() {
+            0 => (60, 35),
+            1 => (4, 6),
+            _ => (1, 6),
         };
-        match self.random.weighted(&[more_defaults, 16, 28, 2, 6, 3, 22]) {
+        match self.random.weighted(&[more_defaults, 18, 28, 2, 7, 3, 22, more_status]) {
             0 => self.activate_default(),
             1 => self.activate_dedicated(),
             2 => self.modify(),
             3 => self.deactivate(),
             4 => self.start(),
             5 => self.reject(),
-            _ => self.route(),
+            6 => self.route(),
+            _ => self.status_line(),
         }
     }
 
@@ -390,6 +392,9 @@ impl Generator {
         self.say("check");
         for _ in 0..self.random.below(4) {
             self.table_call();
+        }
+        for _ in 0..self.random.below(3) {
+            self.status_line();
         }
         if self.random.one_in(2) {
             self.say("show");

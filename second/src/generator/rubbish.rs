@@ -43,6 +43,15 @@ const LINES: &[&str] = &[
     "echo off",
     "repeat 2 echo on",
     "repeat 3 echo off",
+    "status 2",
+    "status 513",
+    "synchronise FFFF",
+    "synchronise -",
+    "synchronise FFFFF",
+    "compare 6000",
+    "compare 60",
+    "repeat 2 compare 60 00",
+    "repeat 3 status 4",
 ];
 
 const BAD_ECHOES: &[&str] = &[
@@ -75,6 +84,58 @@ const BAD_ECHOES: &[&str] = &[
 
 pub fn bad_echo(random: &mut Random) -> &'static str {
     random.pick(BAD_ECHOES)
+}
+
+const BAD_STATUSES: &[&str] = &[
+    "status",
+    "status -",
+    "status 2 2",
+    "status 513",
+    "status 4294967295",
+    "status 00000000002",
+    "status 0x2",
+    "status +2",
+    "status 2.",
+    "status FF",
+    "STATUS 2",
+    "statuses 2",
+    "repeat 2 status",
+    "repeat 0 status 2",
+    "synchronise",
+    "synchronise FFF",
+    "synchronise F",
+    "synchronise FFFFF",
+    "synchronise FF FF",
+    "synchronise FFFF FFFF",
+    "synchronise FF-FF",
+    "synchronise FFFG",
+    "synchronise 0xFFFF",
+    "synchronise --",
+    "synchronise - -",
+    "synchronise FFFF 2",
+    "synchronise 255.255",
+    "synchronize FFFF",
+    "synchronised FFFF",
+    "synchronise # FFFF",
+    "repeat 2 synchronise",
+    "repeat 2 repeat 2 synchronise FFFF",
+    "compare",
+    "compare 600",
+    "compare 6",
+    "compare 60 00",
+    "compare 6000 6000",
+    "compare 6000 -",
+    "compare 60,00",
+    "compare 6O00",
+    "compare 0x60",
+    "Compare 6000",
+    "compares 6000",
+    "repeat 2 compare",
+    "repeat compare 6000",
+];
+
+pub fn bad_status(random: &mut Random) -> &'static str {
+    random.pick(BAD_STATUSES)
 }
 
 /// Dotted, but for something.
@@ -231,7 +292,7 @@ pub fn rubbish(seed: u64) -> Vec<u8> {
 }
 
 fn rubbish_line(random: &mut Random) -> Vec<u8> {
-    match random.below(9) {
+    match random.below(10) {
         0 => (0..random.below(300)).map(|_| random.octet()).collect(),
         1 => long_line(random),
         2 => vec![random.pick(b" #0C\0\xFF\r"); random.below(20_000)],
@@ -239,6 +300,7 @@ fn rubbish_line(random: &mut Random) -> Vec<u8> {
         4 => [b"element ".to_vec(), vec![b'A'; random.below(1030)]].concat(),
         5 => bad_line(random),
         6 => bad_echo(random).as_bytes().to_vec(),
+        7 => bad_status(random).as_bytes().to_vec(),
         _ => random.pick(LINES).as_bytes().to_vec(),
     }
 }
