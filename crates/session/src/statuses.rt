@@ -10,11 +10,27 @@ use status::StatusWritten;
 use status::value::STATUS_OCTETS;
 use status::value::shown_active;
 use status::write::status_number;
-use table::Role;
 use table::Table;
 use table::bearer::BEARERS;
 use table::bearer::FIRST_IDENTITY;
 use table::bearer::is_idle;
+
+// Which bearers are active. Of two tables only this is kept to be compared, since a table more would be on the program's stack at every line.
+pub(crate) struct Actives {
+    at: [bool; BEARERS],
+}
+
+pub(crate) fn active_in(t: Table) -> Actives {
+    let mut found = Actives {
+        at: [false; BEARERS],
+    };
+    for i in 0..BEARERS {
+        let b = t.bearers[i];
+        let role = b.role;
+        found.at[i] = !is_idle(role);
+    }
+    found
+}
 
 fn with_one(listed: FollowUps, identity: u8) -> FollowUps {
     let mut next = listed;
@@ -26,26 +42,22 @@ fn with_one(listed: FollowUps, identity: u8) -> FollowUps {
     next
 }
 
-fn with_gone(gone: FollowUps, identity: u8, was: Role, is: Role) -> FollowUps {
-    if !is_idle(was) & is_idle(is) {
+fn with_gone(gone: FollowUps, identity: u8, was: bool, is: bool) -> FollowUps {
+    if was & !is {
         with_one(gone, identity)
     } else {
         gone
     }
 }
 
-// The bearers that are active in the one table and idle in the other.
-pub(crate) fn gone_between(before: Table, after: Table) -> FollowUps {
+// The bearers that were active and are no more.
+pub(crate) fn gone_between(before: Actives, after: Actives) -> FollowUps {
     let mut gone = FollowUps {
         count: 0,
         bearers: [0; BEARERS],
     };
     for i in 0..BEARERS {
-        let b = before.bearers[i];
-        let was = b.role;
-        let b = after.bearers[i];
-        let is = b.role;
-        gone = with_gone(gone, i as u8 + FIRST_IDENTITY, was, is);
+        gone = with_gone(gone, i as u8 + FIRST_IDENTITY, before.at[i], after.at[i]);
     }
     gone
 }

@@ -1,4 +1,5 @@
 // What a line asks for, as often as it asks.
+use crate::statuses::active_in;
 use crate::statuses::gone_between;
 use calls::FollowUps;
 use calls::Outcome;
@@ -110,28 +111,6 @@ pub(crate) fn reject_times(mut t: Table, transaction: u8, cause: u8, times: u64)
     Outcome { table: t, reply }
 }
 
-// The list of the reply, which the call leaves empty, has here the bearers that the last time deactivated.
-pub(crate) fn synchronise_times(mut t: Table, value: &[u8], times: u64) -> Outcome {
-    let mut before = t;
-    let mut reply = no_reply();
-    let mut i = 0;
-    while i < times {
-        before = t;
-        let outcome = status::take::synchronise(t, value);
-        t = outcome.table;
-        reply = outcome.reply;
-        i += 1;
-    }
-    let answer = reply.answer;
-    Outcome {
-        table: t,
-        reply: Reply {
-            answer,
-            follow: gone_between(before, t),
-        },
-    }
-}
-
 // Called in two places, so that it stays a function of its own: taken into the loop, it is compiled with the table in pieces.
 pub(crate) fn route_times(t: Table, default: u8, header: Header, times: u64) -> route::Answer {
     let mut answer = route::choose::route(t, default, header);
@@ -141,6 +120,26 @@ pub(crate) fn route_times(t: Table, default: u8, header: Header, times: u64) -> 
         i += 1;
     }
     answer
+}
+
+// Called in two places, as `route_times` does it: taken into the loop, its tables would be on the program's stack at every line. The list of
+// the reply, which the call leaves empty, has here the bearers that the last time deactivated.
+pub(crate) fn synchronise_times(t: Table, value: &[u8], times: u64) -> Outcome {
+    let mut before = active_in(t);
+    let mut outcome = status::take::synchronise(t, value);
+    let mut i = 1;
+    while i < times {
+        before = active_in(outcome.table);
+        outcome = status::take::synchronise(outcome.table, value);
+        i += 1;
+    }
+    let after = active_in(outcome.table);
+    let reply = outcome.reply;
+    let answer = reply.answer;
+    let follow = gone_between(before, after);
+    let listed = Reply { answer, follow };
+    outcome.reply = listed;
+    outcome
 }
 
 pub(crate) fn check_times(t: Table, times: u64) -> bool {
