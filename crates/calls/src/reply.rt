@@ -26,7 +26,7 @@ pub enum Refusal {
     StatusLength,
 }
 
-// Release, Reattach and Synchronised: no reply is sent.
+// Accept and Reject are sent; of the others no reply is.
 pub enum Answer {
     Accept(u8),
     Reject(u8, Cause),
@@ -81,7 +81,7 @@ fn refusal_number(refusal: Refusal) -> u8
     }
 }
 
-// Document 01's number; 0 where nothing is refused.
+// The number of documents 01 and 02; 0 where nothing is refused.
 pub fn number(answer: Answer) -> u8
     ensures { λ r. ⌜ r ≡ numberOf answer ⌝ }
 {

@@ -6,7 +6,7 @@ use mathlib.Core.Path.{_≡_}
 use mathlib.Core.Logic.{_⊎_, _↔_}
 use mathlib.Core.List.{List}
 use Prim.Native.Nat.{ℕ, _<_, _≤_}
-use lib.ListN.{length, take}
+use lib.ListN.{length, take, drop}
 use Rattle.laws.specs.Says.{Says}
 use Rattle.laws.specs.Lists.{All}
 use Rattle.filter.specs.declared.component.Filter.{Filter}
@@ -25,7 +25,6 @@ use Rattle.element.specs.Meaning.{Octet, ElementInRange, ReadsAs, TooLongOrUnfr
 use Rattle.element.specs.Order.{InOrder}
 use Rattle.element.proofs.Theorems.{reader-42, reader-44, reader-45, writer-10, writer-11, writer-9, written-reads, writer-order}
 use Rattle.table.specs.declared.bearer.Table.{Table}
-use Rattle.table.specs.Bearers.{bearerCount}
 use Rattle.table.specs.Ranges.{TableInRange}
 use Rattle.table.specs.WellFormed.{wellFormed, WellFormed}
 use Rattle.table.proofs.Meaning.{well-says}
@@ -41,8 +40,8 @@ use Rattle.calls.specs.Checks.{Identity, Active}
 use Rattle.status.specs.declared.write.StatusWritten.the-variants.{Wrote as wroteStatus}
 use Rattle.status.specs.Value.{statusOctets, shownActive}
 use Rattle.status.specs.Write.{statusNumber, writeStatusOf, StatusNumbered}
-use Rattle.status.specs.Take.{synchroniseOf, Synchronises}
-use Rattle.status.proofs.Theorems.{written-shows, status-numbers, synchronise-numbers, synchronise-leaves, own-status, synchronise-again, spare-ignored}
+use Rattle.status.specs.Take.{synchroniseOf, StatusTaken}
+use Rattle.status.proofs.Theorems.{written-shows, status-written, status-numbers, synchronise-numbers, synchronise-takes, own-status, synchronise-again, spare-ignored}
 use Rattle.status.proofs.Examples.{Examples, examples}
 use Rattle.promises.specs.Messages.{Message, modifies, activates, bearerNamed, transactionOf, valueOf, handled, numberGiven, Passes, MessageNumbered, CallNumbered, connectionFor, roleFor}
 use Rattle.promises.specs.Calls.{Call, activateDefault, activateDedicated, modify, deactivate, reject, start, synchronise, outcomeOf}
@@ -149,10 +148,15 @@ pub status-shows-active : (t : Table) (buffer : List ℕ) → writeStatusOf t bu
 status-shows-active = written-shows
 
 -- "every active bearer shown inactive is deactivated locally, and a default takes its connection, transactions included, even where a dedicated one is shown
--- active. Bearers active only at the network change nothing": a bearer is as it was where it and its default are shown active, and else idle with nothing
-pub status-taken : (t : Table) (value : List ℕ) → TableInRange t → synchroniseOf t value .reply .answer ≡ Synchronised
-    → (i : ℕ) → i < bearerCount → Synchronises t value (synchroniseOf t value .table) i
-status-taken = synchronise-leaves
+-- active. Bearers active only at the network change nothing": a bearer is as it was where it and its default are shown active, and else idle with nothing.
+-- No reply is sent, and nobody follows
+pub status-taken : (t : Table) (value : List ℕ) → TableInRange t → WellFormed t → length value ≡ statusOctets → StatusTaken t value (synchroniseOf t value)
+status-taken = synchronise-takes
+
+-- "Octets after those written stay"
+pub status-others-stay : (t : Table) (buffer : List ℕ) → writeStatusOf t buffer .written ≡ wroteStatus
+    → drop statusOctets (writeStatusOf t buffer .buffer) ≡ drop statusOctets buffer
+status-others-stay t buffer e = status-written t buffer e .rest
 
 -- what was written, taken, changes nothing; and what was taken, taken again, gives the same table and reply
 pub status-own : (t : Table) → TableInRange t → (buffer : List ℕ) → writeStatusOf t buffer .written ≡ wroteStatus

@@ -48,7 +48,7 @@ replies t (c ∷ cs) = outcomeOf t c .reply ∷ replies (outcomeOf t c .table) c
 abbrev pub reached : List Call → Table
 reached cs = run emptyTable cs
 
--- what is asked of a call's arguments, and no more: octets are octets, and a transaction that is started is a number of its type
+-- what is asked of a call's arguments, and no more: an element's octets are octets, and a transaction that is started is a number of its type
 abbrev pub Sent : Call → Type 0
 Sent (activateDefault bearer) = Unit {0}
 Sent (activateDedicated bearer link transaction value) = All Octet value
@@ -58,7 +58,7 @@ Sent (reject transaction cause) = Unit {0}
 Sent (start transaction bearer) = transaction < 2 ^ 8
 Sent (synchronise value) = Unit {0}
 
--- "Numbers given", of those that a message may give; 0 where nothing is refused
+-- "Numbers given", and 12 of document 02: of these, those that a message may give; 0 where nothing is refused
 abbrev pub messageNumbers : List ℕ
 messageNumbers = 0 ∷ 1 ∷ 41 ∷ 42 ∷ 43 ∷ 44 ∷ 45 ∷ 47 ∷ []
 

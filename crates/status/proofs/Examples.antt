@@ -28,9 +28,9 @@ with roles transactions = build (record { role = λ i. getD roles i Idle; transa
 abbrev three : List Role
 three = Default ∷ Dedicated 5 ∷ Default ∷ []
 
--- 8 and 15, defaults
+-- 8 and 14, defaults
 abbrev outer : List Role
-outer = Idle ∷ Idle ∷ Idle ∷ Default ∷ Idle ∷ Idle ∷ Idle ∷ Idle ∷ Idle ∷ Idle ∷ Default ∷ []
+outer = Idle ∷ Idle ∷ Idle ∷ Default ∷ Idle ∷ Idle ∷ Idle ∷ Idle ∷ Idle ∷ Default ∷ []
 
 abbrev written : StatusOutcome → List ℕ → Type 0
 written o buffer = o ≡ record { written = Wrote; buffer = buffer }
@@ -39,8 +39,8 @@ abbrev pub Examples : Type 0
 Examples =
     -- "Bearers 5 and 6 give `60 00`."
     (statusOf (with (Default ∷ Dedicated 5 ∷ []) []) ≡ 0x60 ∷ 0x00 ∷ [])
-    -- the ends of the second octet
-    × (statusOf (with outer []) ≡ 0x00 ∷ 0x81 ∷ [])
+    -- in the second octet, the lowest bit and the last but one
+    × (statusOf (with outer []) ≡ 0x00 ∷ 0x41 ∷ [])
     -- a third octet stays, and one octet is too few
     × written (writeStatusOf (with three []) (0xEE ∷ 0xEE ∷ 0xEE ∷ [])) (0xE0 ∷ 0x00 ∷ 0xEE ∷ [])
     × (writeStatusOf (with three []) (0xEE ∷ []) ≡ record { written = NoRoom; buffer = 0xEE ∷ [] })
@@ -48,9 +48,10 @@ Examples =
     × (synchroniseOf (with three (1 ∷ 2 ∷ 3 ∷ [])) (0xC0 ∷ 0x00 ∷ []) ≡ answered (with (Idle ∷ Idle ∷ Default ∷ []) (0 ∷ 0 ∷ 3 ∷ [])) Synchronised)
     -- a dedicated one goes alone; identities 0 to 4 are ignored
     × (synchroniseOf (with three []) (0xBF ∷ 0x00 ∷ []) ≡ answered (with (Default ∷ Idle ∷ Default ∷ []) []) Synchronised)
+    × (synchroniseOf (with outer []) (0x1F ∷ 0x40 ∷ []) ≡ answered (with (Idle ∷ Idle ∷ Idle ∷ Idle ∷ Idle ∷ Idle ∷ Idle ∷ Idle ∷ Idle ∷ Default ∷ []) []) Synchronised)
     -- "Bearers active only at the network change nothing."
     × (synchroniseOf (with three []) (0xFF ∷ 0xFF ∷ []) ≡ answered (with three []) Synchronised)
 
 pub examples : Examples
 unfolding allBelow tab pad joined walk repeats held emptyPlace filterFine bearerFine transactionsApart transactionFrom distinctTransactions rowPrecedences connectionPrecedences distinctAt distinctPrecedences wellFormed shownActive showing showingAt statusOf writeStatusOf goneBy synchroniseOf
-examples = (refl, refl, refl, refl, refl, refl, refl)
+examples = (refl, refl, refl, refl, refl, refl, refl, refl)

@@ -23,7 +23,7 @@ use Rattle.calls.specs.Modify.{malformed}
 use Rattle.calls.proofs.Views.{bearer-built}
 use Rattle.calls.proofs.Rows.{bearerWith, idle-is, row-kept-at, Stored, store-more, store-skip, store-still}
 use Rattle.status.specs.Value.{statusOctets}
-use Rattle.status.specs.Take.{staysShown, goneBy, synchroniseOf}
+use Rattle.status.specs.Take.{staysBy, goneBy, synchroniseOf}
 
 module _ (t : Table) (value : List ℕ) where
   pub synchronise-malformed : wellFormed t ≡ false → synchroniseOf t value ≡ malformed t
@@ -45,18 +45,18 @@ becomes t i stays =
 
 module _ (value : List ℕ) (t : Table) (i : ℕ) (l : i < bearerCount) where
   -- it stays: it is as it was
-  pub kept-bearer : TableInRange t → staysShown value (identityOf i) (roleAt t i) ≡ true → bearerAt (build (cutView t (goneBy value t))) i ≡ bearerAt t i
+  pub kept-bearer : TableInRange t → staysBy value (identityOf i) (roleAt t i) ≡ true → bearerAt (build (cutView t (goneBy value t))) i ≡ bearerAt t i
   unfolding becomes goneBy
   kept-bearer ok e = bearer-built (cutView t (goneBy value t)) i l ∙ ap (becomes t i) e ∙ sym (row-kept-at t i ok l (roleAt t i) (transactionAt t i))
 
   -- ---- one turn: s is the table so far
-  module _ (s : Table) (stays : Bool) (is : stays ≡ staysShown value (identityOf i) (roleAt s i)) (h : Stored (cutView t (goneBy value t)) t s i) where
+  module _ (s : Table) (stays : Bool) (is : stays ≡ staysBy value (identityOf i) (roleAt s i)) (h : Stored (cutView t (goneBy value t)) t s i) where
     abbrev v : View
     v = cutView t (goneBy value t)
 
     by-stays : (b : Bool) → stays ≡ b → becomes t i b ≡ bearerOf v i
     unfolding becomes goneBy
-    by-stays b q = ap (becomes t i) (sym q ∙ is ∙ ap (λ (b : Bearer). staysShown value (identityOf i) (b .role)) (store-still v t s i h))
+    by-stays b q = ap (becomes t i) (sym q ∙ is ∙ ap (λ (b : Bearer). staysBy value (identityOf i) (b .role)) (store-still v t s i h))
 
     pub gone-there : stays ≡ false → (b : Bearer) → b ≡ idleBearer → Stored v t (tableOf (set (s .bearers) i b)) (i + 1)
     unfolding becomes

@@ -7,6 +7,7 @@ use Prim.Native.Nat.{ℕ, zero, suc, _≤_, _<_}
 use native.Mathlib.Omega.{arith}
 use lib.Dec.{eqb, leb}
 use lib.ListN.{length, take, drop}
+use lib.Seq.{take-at, drop-append-seam}
 use borrow.Author.Tests.{eqb-true, eqb-false}
 use Rattle.laws.specs.Says.{pick, Says}
 use Rattle.laws.specs.Lists.{isIn}
@@ -38,16 +39,11 @@ use Rattle.calls.proofs.Whole.{cut-sound}
 use Rattle.status.specs.declared.write.StatusWritten.the-variants.{Wrote, NotWellFormed, NoRoom}
 use Rattle.status.specs.Value.{statusOctets, shownActive, Shown}
 use Rattle.status.specs.Write.{statusOf, StatusOutcome, statusNumber, leaves, wrote, writeStatusOf, StatusNumbered}
-use Rattle.status.specs.Take.{staysShown, goneBy, synchroniseOf, SynchroniseNumbered, Confirmed, Synchronises}
+use Rattle.status.specs.Take.{staysBy, goneBy, synchroniseOf, SynchroniseNumbered, Confirmed, Synchronises, StatusTaken}
 use Rattle.status.proofs.Values.{status-long, status-shows}
 use Rattle.status.proofs.Taking.{synchronise-malformed, synchronise-unfit, synchronise-taken, kept-bearer}
 
 -- ---- Writing
--- the first octets of what stands in front of others
-taken-front : (v r : List ℕ) → take (length v) (v ++ r) ≡ v
-taken-front [] r = refl
-taken-front (x ∷ v) r = ap (λ (v : List ℕ). x ∷ v) (taken-front v r)
-
 module _ (t : Table) (buffer : List ℕ) where
   abbrev o : StatusOutcome
   o = writeStatusOf t buffer
@@ -63,10 +59,11 @@ module _ (t : Table) (buffer : List ℕ) where
       go true false n = refl
       go false l n = refl
 
-  -- where it is written, the table is well formed, and the first two octets are the status
+  -- where it is written, the table is well formed, the first two octets are the status, and the others stay
   pub record Written : Type 0 where
     pub well : wellFormed t ≡ true
     pub octets : take statusOctets (o .buffer) ≡ statusOf t
+    pub rest : drop statusOctets (o .buffer) ≡ drop statusOctets buffer
 
   pub status-written : o .written ≡ Wrote → Written
   unfolding writeStatusOf
@@ -77,7 +74,9 @@ module _ (t : Table) (buffer : List ℕ) where
       go true q true m e =
           record {
             well = q;
-            octets = rw (q, m) (ap (λ (n : ℕ). take n (statusOf t ++ drop statusOctets buffer)) (sym (status-long t)) ∙ taken-front (statusOf t) (drop statusOctets buffer));
+            octets = rw (q, m) (take-at (statusOf t) (drop statusOctets buffer) statusOctets (status-long t));
+            rest = rw (q, m) (subst (λ (n : ℕ). drop n (statusOf t ++ drop statusOctets buffer) ≡ drop statusOctets buffer) (status-long t)
+                (drop-append-seam (statusOf t) (drop statusOctets buffer)));
           }
       go true q false m e = let z = ap statusNumber e in absurd (omega arith)
       go false q l m e = let z = ap statusNumber e in absurd (omega arith)
@@ -146,26 +145,11 @@ module _ (t : Table) (value : List ℕ) where
       go true false = refl
       go false l = refl
 
-  -- where it is taken, the table is well formed and the value has two octets
-  pub record Taken : Type 0 where
-    pub well : wellFormed t ≡ true
-    pub long : length value ≡ statusOctets
-
-  pub synchronise-takes : synchroniseOf t value .reply .answer ≡ Synchronised → Taken
-  unfolding synchroniseOf
-  synchronise-takes = go (wellFormed t) refl (eqb (length value) statusOctets) refl
-    where
-      go : (w : Bool) → wellFormed t ≡ w → (l : Bool) → eqb (length value) statusOctets ≡ l
-          → pick w (pick l (answered after Synchronised) (answered t (Refused StatusLength))) (malformed t) .reply .answer ≡ Synchronised → Taken
-      go true q true m e = record { well = q; long = eqb-true (length value) statusOctets m }
-      go true q false m e = let z = ap numberOf e in absurd (omega arith)
-      go false q l m e = let z = ap numberOf e in absurd (omega arith)
-
   -- an active bearer stays exactly where it is shown active and its default is too
-  stays-says : (i : ℕ) → (roleAt t i ≡ Idle → ⊥) → Says (staysShown value (identityOf i) (roleAt t i)) (Shown value (identityOf i) × Shown value (connectionAt t i))
+  stays-says : (i : ℕ) → (roleAt t i ≡ Idle → ⊥) → Says (staysBy value (identityOf i) (roleAt t i)) (Shown value (identityOf i) × Shown value (connectionAt t i))
   stays-says i = go (roleAt t i)
     where
-      go : (r : Role) → (r ≡ Idle → ⊥) → Says (staysShown value (identityOf i) r) (Shown value (identityOf i) × Shown value (connectionOf i r))
+      go : (r : Role) → (r ≡ Idle → ⊥) → Says (staysBy value (identityOf i) r) (Shown value (identityOf i) × Shown value (connectionOf i r))
       go Idle n = absurd (n refl)
       go Default n = says-so (says-it (shownActive value (identityOf i))) (λ h. (h, h)) (λ h. h .0)
       go (Dedicated link) n = says-and (says-it (shownActive value (identityOf i))) (says-it (shownActive value link))
@@ -190,7 +174,7 @@ module _ (t : Table) (value : List ℕ) where
   -- ---- what becomes of each bearer
   module _ (ok : TableInRange t) (w : WellFormed t) (i : ℕ) (l : i < bearerCount) where
     abbrev stays : Bool
-    stays = staysShown value (identityOf i) (roleAt t i)
+    stays = staysBy value (identityOf i) (roleAt t i)
 
     role-after : (b : Bool) → stays ≡ b → roleAt after i ≡ pick (not b) Idle (roleAt t i)
     unfolding goneBy
@@ -208,7 +192,7 @@ module _ (t : Table) (value : List ℕ) where
     -- an idle one holds nothing already
     void-before : roleAt t i ≡ Idle → Void (view after) i
     void-before r =
-        let e : bearerAt after i ≡ bearerAt t i = kept-bearer value t i l ok (ap (staysShown value (identityOf i)) r) in
+        let e : bearerAt after i ≡ bearerAt t i = kept-bearer value t i l ok (ap (staysBy value (identityOf i)) r) in
         record {
           role = ap (λ (b : Bearer). b .role) e ∙ r;
           transaction = ap (λ (b : Bearer). b .transaction) e ∙ w .silent i l r;
@@ -238,11 +222,10 @@ module _ (t : Table) (value : List ℕ) where
           goes = λ m. void-after e;
         }) (which stays)) (which (isIdle (roleAt t i)))
 
-  pub synchronise-leaves : TableInRange t → synchroniseOf t value .reply .answer ≡ Synchronised
-      → (i : ℕ) → i < bearerCount → Synchronises t value (synchroniseOf t value .table) i
-  synchronise-leaves ok e i l =
-      let k = synchronise-takes e in
-      rw (synchronise-taken t value (k .well) (k .long)) (leaves-bearer ok (well-says t ok .to (k .well)) i l)
+  -- a status that is taken: the answer, and each bearer
+  pub synchronise-takes : TableInRange t → WellFormed t → length value ≡ statusOctets → StatusTaken t value (synchroniseOf t value)
+  synchronise-takes ok w e =
+      rw (synchronise-taken t value (well-says t ok .from w) e) (record { reply = refl; bearer = leaves-bearer ok w })
 
 -- ---- Nothing goes
 pub none-gone : (t : Table) → TableInRange t → (gone : ℕ → Bool) → ((i : ℕ) → i < bearerCount → gone i ≡ false) → build (cutView t gone) ≡ t
@@ -264,7 +247,7 @@ module _ (t : Table) (w : WellFormed t) (i : ℕ) (l : i < bearerCount) where
       active : (r : Role) → isIdle r ≡ false → roleAt t i ≡ r → roleAt t i ≡ Idle → ⊥
       active r n q z = never (ap isIdle z) (ap isIdle q ∙ n)
 
-      go : (r : Role) → roleAt t i ≡ r → staysShown (statusOf t) (identityOf i) r ≡ true
+      go : (r : Role) → roleAt t i ≡ r → staysBy (statusOf t) (identityOf i) r ≡ true
       go Idle q = refl
       go Default q = own-shown (active Default refl q)
       go (Dedicated link) q = rw (own-shown (active (Dedicated link) refl q)) (default-shown link q)
@@ -283,9 +266,9 @@ module _ (t : Table) (value : List ℕ) where
   left-stays : (i : ℕ) → i < bearerCount → goneBy value (after t value) i ≡ false
   unfolding goneBy
   left-stays i l =
-      ap (λ (r : Role). not (staysShown value (identityOf i) r)) (role-built (cutView t (goneBy value t)) i l) ∙ go (staysShown value (identityOf i) (roleAt t i)) refl
+      ap (λ (r : Role). not (staysBy value (identityOf i) r)) (role-built (cutView t (goneBy value t)) i l) ∙ go (staysBy value (identityOf i) (roleAt t i)) refl
     where
-      go : (b : Bool) → staysShown value (identityOf i) (roleAt t i) ≡ b → not (staysShown value (identityOf i) (pick (not b) Idle (roleAt t i))) ≡ false
+      go : (b : Bool) → staysBy value (identityOf i) (roleAt t i) ≡ b → not (staysBy value (identityOf i) (pick (not b) Idle (roleAt t i))) ≡ false
       go true e = ap not e
       go false e = refl
 
@@ -312,7 +295,7 @@ module _ (t : Table) (ok : TableInRange t) (value other : List ℕ) (long : leng
       own : shownActive value (identityOf i) ≡ shownActive other (identityOf i)
       own = alike (identityOf i) (omega arith, omega arith)
 
-      go : (r : Role) → roleAt t i ≡ r → staysShown value (identityOf i) r ≡ staysShown other (identityOf i) r
+      go : (r : Role) → roleAt t i ≡ r → staysBy value (identityOf i) r ≡ staysBy other (identityOf i) r
       go Idle q = refl
       go Default q = own
       go (Dedicated link) q = let k = w .linked i link l q in rw (own, alike link (k .0, k .1))

@@ -36,10 +36,10 @@ module _ (value : List ℕ) (identity : ℕ) (past : length value ≤ octetOf id
 pub shown-more : (value : List ℕ) (n m : ℕ) → octetOf n < length value → shownActive (showing value n) m ≡ shownActive value m || eqb n m
 unfolding shownActive showing
 shown-more value n m l =
-    ap unset (set-seen value (octetOf n) (octetOf m) _ 0 (λ e. omega arith)) ∙ go (eqb (octetOf n) (octetOf m)) refl
+    ap isSet (set-seen value (octetOf n) (octetOf m) _ 0 (λ e. omega arith)) ∙ go (eqb (octetOf n) (octetOf m)) refl
   where
-    unset : ℕ → Bool
-    unset v = not (off (m % 8) v)
+    isSet : ℕ → Bool
+    isSet v = not (off (m % 8) v)
 
     -- in one octet identities differ by their bits
     same : octetOf n ≡ octetOf m → eqb (n % 8) (m % 8) ≡ eqb n m
@@ -52,7 +52,7 @@ shown-more value n m l =
     either false false = refl
 
     go : (b : Bool) → eqb (octetOf n) (octetOf m) ≡ b
-        → unset (pick b (bitOr (getD value (octetOf n) 0) (bitOf n)) (getD value (octetOf m) 0)) ≡ unset (getD value (octetOf m) 0) || eqb n m
+        → isSet (pick b (bitOr (getD value (octetOf n) 0) (bitOf n)) (getD value (octetOf m) 0)) ≡ isSet (getD value (octetOf m) 0) || eqb n m
     go true q =
         let o = eqb-true (octetOf n) (octetOf m) q in
         rw (o, bit-set (n % 8) (m % 8) (getD value (octetOf m) 0), same o) (either (eqb n m) (off (m % 8) (getD value (octetOf m) 0)))

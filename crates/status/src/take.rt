@@ -2,7 +2,7 @@
 ghost use mathlib.Core.Path.{_≡_};
 ghost use Rattle.table.specs.Bearers.{build};
 ghost use Rattle.calls.specs.Steps.{cutView};
-ghost use Rattle.status.specs.Take.{staysShown, goneBy, synchroniseOf};
+ghost use Rattle.status.specs.Take.{staysBy, goneBy, synchroniseOf};
 use crate::value::STATUS_OCTETS;
 use crate::value::shown_active;
 use calls::Answer;
@@ -17,8 +17,8 @@ use table::bearer::idle_bearer;
 use table::well_formed::well_formed;
 
 // "a default takes its connection": a dedicated bearer stays only where its default does.
-fn stays_shown(value: &[u8], identity: u8, role: Role) -> bool
-    ensures { λ r. ⌜ r ≡ staysShown (now (value .entry)) identity role ⌝ }
+fn stays_by(value: &[u8], identity: u8, role: Role) -> bool
+    ensures { λ r. ⌜ r ≡ staysBy (now (value .entry)) identity role ⌝ }
 {
     match role {
         Role::Idle => true,
@@ -34,7 +34,7 @@ fn without_unshown(t: Table, value: &[u8]) -> Table
     for i in 0..BEARERS {
         let b = s.bearers[i];
         let role = b.role;
-        if !stays_shown(value, i as u8 + FIRST_IDENTITY, role) {
+        if !stays_by(value, i as u8 + FIRST_IDENTITY, role) {
             s.bearers[i] = idle_bearer();
         }
     }

@@ -14,7 +14,7 @@ use table::bearer::FIRST_IDENTITY;
 use table::bearer::is_idle;
 use table::well_formed::well_formed;
 
-// 0, 1 and 9 of document 01.
+// Number 0, and 1 and 9 of documents 01 and 02.
 pub enum StatusWritten {
     Wrote,
     NotWellFormed,

@@ -26,7 +26,7 @@ loop-again c =
     let l = test .before .loop in
     let start = test .before .before .before in
     let a = start .args in
-    let f = turn .stays-shown in
+    let f = turn .stays-by in
     let below = test .loop-test .taken in
     ⊎-elim
     (λ w. rw (w .2) (gone-there (a .value .now) (a .t) (l .i) below (l .s) (f .result) (f .ensures) (l .inv) (not-true _ (w .0 .taken)) _ (w .1 .ensures)))
