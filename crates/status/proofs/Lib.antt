@@ -1,4 +1,5 @@
 pub mod Values
+pub mod Writing
 pub mod Taking
 pub mod Theorems
 pub mod Examples

@@ -3,7 +3,7 @@ use mathlib.Core.Path.{_≡_, refl, sym, _∙_, ap, subst}
 use mathlib.Core.Bool.{Bool, true, false, not, _&&_}
 use mathlib.Core.Logic.{_↔_, ⊎-elim}
 use mathlib.Core.List.{List, [], _∷_, _++_}
-use Prim.Native.Nat.{ℕ, zero, suc, _≤_, _<_}
+use Prim.Native.Nat.{ℕ, _≤_, _<_}
 use native.Mathlib.Omega.{arith}
 use lib.Dec.{eqb, leb}
 use lib.ListN.{length, take, drop}
@@ -11,20 +11,16 @@ use lib.Seq.{take-at, drop-append-seam}
 use borrow.Author.Tests.{eqb-true, eqb-false}
 use Rattle.laws.specs.Says.{pick, Says}
 use Rattle.laws.specs.Lists.{isIn}
-use Rattle.laws.proofs.Says.{which, never, picked, by-test, says-it, says-eq, says-le, says-and, says-so, says-no, says-ne, unless-here, unless-later, where-here}
-use Rattle.laws.proofs.Tests.{both}
-use Rattle.filter.specs.Sizes.{placeCount}
-use Rattle.filter.specs.Build.{emptyFilter}
+use Rattle.laws.proofs.Says.{which, never, picked, says-it, says-eq, says-le, says-and, says-so, says-ne, unless-here, unless-later, where-here}
 use Rattle.table.specs.declared.bearer.Role.{Role}
 use Rattle.table.specs.declared.bearer.Role.the-variants.{Idle, Default, Dedicated}
 use Rattle.table.specs.declared.bearer.Bearer.{Bearer}
 use Rattle.table.specs.declared.bearer.Table.{Table}
-use Rattle.table.specs.Bearers.{bearerCount, indexOf, identityOf, bearerAt, inRow, roleAt, transactionAt, filterAt, view, build, isIdle, connectionOf, connectionAt}
+use Rattle.table.specs.Bearers.{bearerCount, indexOf, identityOf, bearerAt, inRow, roleAt, view, build, isIdle, connectionOf, connectionAt}
 use Rattle.table.specs.Ranges.{TableInRange}
 use Rattle.table.specs.WellFormed.{wellFormed, WellFormed}
 use Rattle.table.proofs.Meaning.{idle-says, well-says}
 use Rattle.calls.specs.declared.reply.Refusal.the-variants.{StatusLength}
-use Rattle.calls.specs.declared.reply.Answer.{Answer}
 use Rattle.calls.specs.declared.reply.Answer.the-variants.{Synchronised, Refused}
 use Rattle.calls.specs.declared.reply.Outcome.{Outcome}
 use Rattle.calls.specs.Reply.{numberOf, answered}
@@ -36,11 +32,13 @@ use Rattle.calls.proofs.Views.{role-built, transaction-built, filter-built, vie
 use Rattle.calls.proofs.Rows.{self-built}
 use Rattle.calls.proofs.Preserved.{Along}
 use Rattle.calls.proofs.Whole.{cut-sound}
+use Rattle.status.specs.declared.write.StatusWritten.{StatusWritten}
 use Rattle.status.specs.declared.write.StatusWritten.the-variants.{Wrote, NotWellFormed, NoRoom}
 use Rattle.status.specs.Value.{statusOctets, shownActive, Shown}
 use Rattle.status.specs.Write.{statusOf, StatusOutcome, statusNumber, leaves, wrote, writeStatusOf, StatusNumbered}
-use Rattle.status.specs.Take.{staysBy, goneBy, synchroniseOf, SynchroniseNumbered, Confirmed, Synchronises, StatusTaken}
+use Rattle.status.specs.Take.{staysBy, goneBy, synchroniseOf, SynchroniseNumbered, Synchronises, StatusTaken}
 use Rattle.status.proofs.Values.{status-long, status-shows}
+use Rattle.status.proofs.Writing.{write-malformed, write-short, write-fit}
 use Rattle.status.proofs.Taking.{synchronise-malformed, synchronise-unfit, synchronise-taken, kept-bearer}
 
 -- ---- Writing
@@ -49,15 +47,13 @@ module _ (t : Table) (buffer : List ℕ) where
   o = writeStatusOf t buffer
 
   -- a refusal leaves the buffer
-  pub status-leaves : (statusNumber (o .written) ≡ 0 → ⊥) → o .buffer ≡ buffer
+  abbrev RefusalStays : StatusOutcome → Type 0
+  RefusalStays out = (statusNumber (out .written) ≡ 0 → ⊥) → out .buffer ≡ buffer
+
+  pub status-leaves : RefusalStays o
   unfolding writeStatusOf
-  status-leaves = go (wellFormed t) (leb statusOctets (length buffer))
-    where
-      go : (w l : Bool) → let out = pick w (pick l (wrote (statusOf t) buffer) (leaves NoRoom buffer)) (leaves NotWellFormed buffer) in
-          (statusNumber (out .written) ≡ 0 → ⊥) → out .buffer ≡ buffer
-      go true true n = absurd (n refl)
-      go true false n = refl
-      go false l n = refl
+  status-leaves =
+      picked RefusalStays (wellFormed t) _ _ (picked RefusalStays (leb statusOctets (length buffer)) _ _ (λ n. absurd (n refl)) (λ n. refl)) (λ n. refl)
 
   -- where it is written, the table is well formed, the first two octets are the status, and the others stay
   pub record Written : Type 0 where
@@ -66,20 +62,24 @@ module _ (t : Table) (buffer : List ℕ) where
     pub rest : drop statusOctets (o .buffer) ≡ drop statusOctets buffer
 
   pub status-written : o .written ≡ Wrote → Written
-  unfolding writeStatusOf
-  status-written = go (wellFormed t) refl (leb statusOctets (length buffer)) refl
+  status-written e =
+      ⊎-elim (λ w. ⊎-elim (λ m. wrote-it w (write-fit t buffer w (says-le statusOctets (length buffer) .to m)))
+      (λ m. let n : statusOctets ≤ length buffer → ⊥ = says-ne (says-le statusOctets (length buffer)) m in
+      other (write-short t buffer w (omega arith)) (λ z. omega arith)) (which (leb statusOctets (length buffer))))
+      (λ w. other (write-malformed t buffer w) (λ z. omega arith)) (which (wellFormed t))
     where
-      go : (w : Bool) → wellFormed t ≡ w → (l : Bool) → leb statusOctets (length buffer) ≡ l
-          → pick w (pick l (wrote (statusOf t) buffer) (leaves NoRoom buffer)) (leaves NotWellFormed buffer) .written ≡ Wrote → Written
-      go true q true m e =
+      other : {why : StatusWritten} → o ≡ leaves why buffer → (statusNumber why ≡ 0 → ⊥) → Written
+      other q n = absurd (n (sym (ap (λ (o : StatusOutcome). statusNumber (o .written)) q) ∙ ap statusNumber e))
+
+      wrote-it : wellFormed t ≡ true → o ≡ wrote (statusOf t) buffer → Written
+      wrote-it w q =
+          let rest = drop statusOctets buffer in
           record {
-            well = q;
-            octets = rw (q, m) (take-at (statusOf t) (drop statusOctets buffer) statusOctets (status-long t));
-            rest = rw (q, m) (subst (λ (n : ℕ). drop n (statusOf t ++ drop statusOctets buffer) ≡ drop statusOctets buffer) (status-long t)
-                (drop-append-seam (statusOf t) (drop statusOctets buffer)));
+            well = w;
+            octets = ap (λ (o : StatusOutcome). take statusOctets (o .buffer)) q ∙ take-at (statusOf t) rest statusOctets (status-long t);
+            rest = ap (λ (o : StatusOutcome). drop statusOctets (o .buffer)) q
+                ∙ subst (λ (n : ℕ). drop n (statusOf t ++ rest) ≡ rest) (status-long t) (drop-append-seam (statusOf t) rest);
           }
-      go true q false m e = let z = ap statusNumber e in absurd (omega arith)
-      go false q l m e = let z = ap statusNumber e in absurd (omega arith)
 
   -- what is written shows a bearer active exactly where it is
   pub written-shows : o .written ≡ Wrote → (n : ℕ) → Says (shownActive (take statusOctets (o .buffer)) n) (Active t n)

@@ -6,7 +6,7 @@ use Prim.Native.Nat.{ℕ, zero, suc, _%_, _≤_, _<_}
 use native.Mathlib.Omega.{arith}
 use lib.Bits.{bitAnd, bitOr}
 use lib.Dec.{eqb}
-use lib.ListN.{length, getD, set, replicate, List·getD-eq-default, length-set}
+use lib.ListN.{length, getD, replicate, List·getD-eq-default, length-set}
 use lib.Seq.{set-out}
 use borrow.Author.Tests.{eqb-true, eqb-false, ne-eqb}
 use Rattle.laws.specs.Says.{pick, Says}
