@@ -1,13 +1,16 @@
 -- Laws of parts of a list, and of stores into one.
-use mathlib.Core.Path.{_≡_, refl, sym, _∙_}
+use mathlib.Core.Path.{_≡_, refl, sym, ap, _∙_}
 use mathlib.Core.Bool.{Bool, true}
 use mathlib.Core.List.{List, [], _∷_, _++_}
 use Prim.Native.Nat.{ℕ, zero, suc, _+_, _-_, _≤_, _<_}
 use native.Mathlib.Nat.{le-refl, not-suc-le-zero, le-of-suc-le-suc, sub-zero, suc-sub-suc, add-zero, add-suc, suc-add}
 use native.Mathlib.Numerals.{add-one}
-use lib.ListN.{length, take, drop, getD, set, length-drop}
+use native.Mathlib.Omega.{arith}
+use lib.ListN.{length, take, drop, getD, set, replicate, length-drop}
 use lib.Seq.{take-all, take-nil, drop-cons, drop-drop, sets}
+use Rattle.laws.specs.Index.{pad}
 use Rattle.laws.specs.Lists.{every, All}
+use Rattle.laws.proofs.Lists.{all-alike}
 use Rattle.laws.proofs.Tests.{both}
 
 module _ {A : Type 0} where
@@ -56,3 +59,33 @@ module _ {A : Type 0} (test : A → Bool) where
   every-set [] i a h t = refl
   every-set (x ∷ l) zero a h t = rw (t, both (test x) (every test l) h .1)
   every-set (x ∷ l) (suc i) a h t = rw (both (test x) (every test l) h .0) (every-set l i a (both (test x) (every test l) h .1) t)
+
+-- ---- a list in an array, zero beyond its end
+pub pad-none : (n : ℕ) → replicate n 0 ≡ pad n []
+unfolding pad
+pad-none zero = refl
+pad-none (suc n) = ap (λ (xs : List ℕ). 0 ∷ xs) (pad-none n)
+
+pub pad-take : (n : ℕ) (xs : List ℕ) → length xs ≤ n → take (length xs) (pad n xs) ≡ xs
+unfolding pad
+pad-take n [] l = refl
+pad-take zero (x ∷ xs) l = absurd (not-suc-le-zero l)
+pad-take (suc n) (x ∷ xs) l = ap (λ (ys : List ℕ). x ∷ ys) (pad-take n xs (le-of-suc-le-suc l))
+
+module _ (test : ℕ → Bool) where
+  -- zero passes the test, and so does all that is beyond the end
+  pub pad-rests : test 0 ≡ true → (n : ℕ) (xs : List ℕ) → every test (drop (length xs) (pad n xs)) ≡ true
+  unfolding pad every
+  pad-rests z zero [] = refl
+  pad-rests z (suc n) [] = rw z (pad-rests z n [])
+  pad-rests z zero (x ∷ xs) = refl
+  pad-rests z (suc n) (x ∷ xs) = pad-rests z n xs
+
+  -- zero alone passes it: an array all of which passes it from k on is its first k elements, padded
+  pub pad-is : ((x : ℕ) → test x ≡ true → x ≡ 0) → (n k : ℕ) (xs : List ℕ) → length xs ≡ n → every test (drop k xs) ≡ true → xs ≡ pad n (take k xs)
+  unfolding pad
+  pad-is same n zero xs l t = all-alike test 0 same n xs l t ∙ pad-none n
+  pad-is same zero (suc k) [] l t = refl
+  pad-is same (suc n) (suc k) [] l t = absurd (omega arith)
+  pad-is same zero (suc k) (x ∷ xs) l t = absurd (omega arith)
+  pad-is same (suc n) (suc k) (x ∷ xs) l t = ap (λ (ys : List ℕ). x ∷ ys) (pad-is same n k xs (omega arith) t)
