@@ -1,9 +1,11 @@
--- Document 01's sample elements that concern the reader, and some limits: a single list under a single claim, computed. Then what is handed out step by step.
+-- Document 01's sample elements that concern the reader, and some limits: a single list under a single claim, computed. Then what is handed out step by step, and what calls
+-- are answered with by which an element arrives split.
 use mathlib.Core.Path.{_≡_, refl}
 use mathlib.Core.List.{List, [], _∷_, _++_}
 use Prim.Native.Nat.{ℕ, zero, suc}
 use lib.ListN.{replicate}
 use Rattle.laws.specs.Numbers.{sameUnder}
+use Rattle.laws.specs.Index.{pad}
 use Rattle.laws.specs.Octets.{beFrom, beBytes}
 use Rattle.laws.specs.Lists.{every, isIn, repeats}
 use Rattle.filter.specs.Build.{protocol, bare, excluded, added, built}
@@ -13,7 +15,10 @@ use Rattle.filter.specs.Fittable.{sample, fittable}
 use Rattle.element.specs.declared.answer.Cause.the-variants.{Operation}
 use Rattle.element.specs.declared.entries.Handed.{Handed}
 use Rattle.element.specs.declared.entries.Handed.the-variants.{Filter, Identifier, Refused, End}
+use Rattle.element.specs.declared.portions.Portions.{Portions}
+use Rattle.element.specs.Head.{longest}
 use Rattle.element.specs.Numbers.{numberOf}
+use Rattle.element.specs.Portions.{sound, takes, announceOf, feedOf, finishOf, PortionCall, announce, feed, finish, after, numberAt}
 use Rattle.element.specs.Entries.{locatedFilters, locatedIdentifiers, locatedOf, firstOffset, locatedAt, lookAt, afterAt}
 use Rattle.element.specs.Read.{noFilters, noMarks, codedOf, entriesOf, twice, inPlaces, marked, readValue, readElement}
 use Rattle.element.specs.Contents.{lengthOf, componentOf, contentsFrom, contentsOf}
@@ -107,3 +112,52 @@ at-offsets : looksFrom 12 (0x22 ∷ 0x35 ∷ 0x0A ∷ 0x02 ∷ 0x30 ∷ 0x11 ∷
     ++ (Refused (record { cause = Operation }) ∷ End ∷ [])
 unfolding looksFrom locatedFilters locatedIdentifiers locatedOf locatedAt lookAt sameUnder beFrom every isIn repeats excluded added validHeader agreesTransport agreesNetwork fits sample fittable noFilters noMarks lengthOf componentOf contentsFrom contentsOf splitOf parameters restFits framedBy framedOf codedOf entriesOf twice inPlaces marked readValue readElement
 at-offsets = refl
+
+-- ---- an element in portions: what a sequence of calls is answered with, each on the state that those before it left
+abbrev answers : Portions → List PortionCall → List ℕ
+answers p [] = []
+answers p (c ∷ cs) = numberAt p c ∷ answers (after p c) cs
+
+-- nothing announced; nine octets in three portions, one of them empty, with a portion of one octet too many, an early finish, an octet past the end, and
+-- nothing more fed at the end; elements of causes 44 and 45; 255 octets announced and fed, and 256
+portions-answered : (
+    answers (announceOf 0 .state)
+    (finish
+    ∷ announce 9
+    ∷ feed (0x21 ∷ 0x31 ∷ [])
+    ∷ feed []
+    ∷ feed (0x0A ∷ 0x05 ∷ 0x30 ∷ 0x11 ∷ 0x50 ∷ 0x13 ∷ 0xC4 ∷ 0x00 ∷ [])
+    ∷ finish
+    ∷ feed (0x0A ∷ 0x05 ∷ 0x30 ∷ 0x11 ∷ 0x50 ∷ 0x13 ∷ 0xC4 ∷ [])
+    ∷ feed (0x00 ∷ [])
+    ∷ feed []
+    ∷ finish
+    ∷ announce 9
+    ∷ feed (0x21 ∷ 0x31 ∷ 0x0A ∷ 0x05 ∷ 0x30 ∷ [])
+    ∷ feed (0x01 ∷ 0x50 ∷ 0x13 ∷ 0xC4 ∷ [])
+    ∷ finish
+    ∷ announce 6
+    ∷ feed (0x21 ∷ 0x31 ∷ 0x0A ∷ 0x02 ∷ 0x31 ∷ 0x11 ∷ [])
+    ∷ finish
+    ∷ announce 255
+    ∷ finish
+    ∷ feed (0xD0 ∷ replicate 254 0)
+    ∷ feed (0x00 ∷ [])
+    ∷ finish
+    ∷ announce 256
+    ∷ feed (0x00 ∷ [])
+    ∷ finish
+    ∷ [])
+    )
+    ≡ (42 ∷ 0 ∷ 0 ∷ 0 ∷ 13 ∷ 14 ∷ 0 ∷ 13 ∷ 0 ∷ 0 ∷ 0 ∷ 0 ∷ 0 ∷ 44 ∷ 0 ∷ 0 ∷ 45 ∷ 0 ∷ 14 ∷ 0 ∷ 13 ∷ 0 ∷ 42 ∷ 13 ∷ 42 ∷ [])
+unfolding sound takes announceOf feedOf finishOf pad sameUnder beFrom every isIn repeats excluded added validHeader agreesTransport agreesNetwork fits sample fittable noFilters noMarks lengthOf componentOf contentsFrom contentsOf splitOf parameters restFits framedBy framedOf codedOf entriesOf twice inPlaces marked readValue readElement
+portions-answered = refl
+
+-- states that no calls give: more fed than announced, an octet past what was fed
+abbrev odd : ℕ → ℕ → List ℕ → Portions
+odd announced fed xs = record { announced = announced; fed = fed; octets = pad longest xs }
+
+odd-answered : (answers (odd 1 2 (0x21 ∷ 0x31 ∷ [])) (feed [] ∷ finish ∷ []) ++ answers (odd 3 2 (0x21 ∷ 0x31 ∷ 0x0A ∷ [])) (feed [] ∷ finish ∷ []))
+    ≡ (13 ∷ 13 ∷ 13 ∷ 13 ∷ [])
+unfolding sound takes feedOf finishOf pad every
+odd-answered = refl

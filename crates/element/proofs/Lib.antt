@@ -19,3 +19,5 @@ mod Decoded
 mod Laid
 mod Causes
 pub mod Given
+pub mod Holdings
+pub mod Divided

@@ -7,4 +7,5 @@ pub mod Numbers
 pub mod Meaning
 pub mod Order
 pub mod Entries
+pub mod Portions
 pub mod inner

@@ -7,6 +7,11 @@ use Rattle.element.specs.declared.answer.Answer.{Answer}
 use Rattle.element.specs.declared.answer.Answer.the-variants.{Filters, Identifiers, Bare, Refused}
 use Rattle.element.specs.declared.entries.Handed.{Handed}
 use Rattle.element.specs.declared.entries.Handed.the-variants.{Filter, Identifier, Refused as refusedAtOnce, End}
+use Rattle.element.specs.declared.portions.PortionsAnswer.{PortionsAnswer}
+use Rattle.element.specs.declared.portions.PortionsAnswer.the-variants.{Taken, TooLong as announcedTooLong, NotTaken}
+use Rattle.element.specs.declared.portions.FinishAnswer.{FinishAnswer}
+use Rattle.element.specs.declared.portions.FinishAnswer.the-variants.{Read, NotSound, Early}
+use Rattle.element.specs.declared.portions.Finished.{Finished}
 use Rattle.element.specs.declared.write.Unwritten.the-variants.{NotGiven, TooLong, NoRoom}
 use Rattle.element.specs.declared.write.Written.{Written}
 use Rattle.element.specs.declared.write.Written.the-variants.{Wrote, Refused as refusedTo}
@@ -44,3 +49,18 @@ writtenNumber (Wrote n) = 0
 writtenNumber (refusedTo NotGiven) = 10
 writtenNumber (refusedTo TooLong) = 11
 writtenNumber (refusedTo NoRoom) = 9
+
+-- document 02, 2/14: of an announcement and of a portion
+abbrev pub portionsNumber : PortionsAnswer → ℕ
+portionsNumber Taken = 0
+portionsNumber announcedTooLong = 42
+portionsNumber NotTaken = 13
+
+-- .. and of a finish: where it reads, the reader's
+abbrev pub finishNumberBy : FinishAnswer → Answer → ℕ
+finishNumberBy Read answer = numberOf answer
+finishNumberBy NotSound answer = 13
+finishNumberBy Early answer = 14
+
+abbrev pub finishNumber : Finished → ℕ
+finishNumber finished = finishNumberBy (finished .answer) (finished .element .answer)

@@ -1,4 +1,4 @@
-// The template's bytes: the reader, also entry by entry, the writer, the component lengths, and the number of an answer.
+// The template's bytes: the reader, also entry by entry and of portions, the writer, the component lengths, and the number of an answer.
 pub mod answer;
 mod contents;
 pub mod entries;
@@ -8,6 +8,7 @@ pub mod head;
 mod judge;
 mod lengths;
 mod octets;
+pub mod portions;
 pub mod read;
 mod survey;
 pub mod write;
@@ -20,5 +21,10 @@ pub use answer::Refusal;
 pub use answer::SetOperation;
 pub use entries::Entries;
 pub use entries::Handed;
+pub use portions::FinishAnswer;
+pub use portions::Finished;
+pub use portions::Portions;
+pub use portions::PortionsAnswer;
+pub use portions::PortionsOutcome;
 pub use write::Unwritten;
 pub use write::Written;

@@ -35,6 +35,8 @@ use Rattle.element.specs.declared.contents.Coded.{Coded}
 use Rattle.element.specs.declared.contents.Coded.the-variants.{Badly, Well}
 use Rattle.element.specs.declared.contents.Step.{Step}
 use Rattle.element.specs.declared.contents.Step.the-variants.{Halt, Next}
+use Rattle.element.specs.declared.portions.FinishAnswer.{FinishAnswer}
+use Rattle.element.specs.declared.portions.FinishAnswer.the-variants.{Read, NotSound, Early}
 use Rattle.element.specs.declared.framing.Place.{Place}
 use Rattle.element.specs.declared.framing.Place.the-variants.{Cut, At}
 use Rattle.element.specs.declared.framing.Frame.{Frame}
@@ -265,3 +267,9 @@ placeOctets i f = pick (held f) (entryOctets (record { identifier = i; filter = 
 
 abbrev pub markOctets : ℕ → Bool → List ℕ
 markOctets i m = pick m (i ∷ []) []
+
+-- ---- Portions: how many octets of the state a finish reads
+abbrev pub readEnd : FinishAnswer → ℕ → ℕ
+readEnd Read fed = fed
+readEnd NotSound fed = 0
+readEnd Early fed = 0
