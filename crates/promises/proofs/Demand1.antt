@@ -3,11 +3,12 @@
 -- Assumes nothing.
 use mathlib.Core.Path.{_≡_, refl, _∙_, ap}
 use mathlib.Core.Bool.{Bool, true, false}
-use mathlib.Core.List.{List}
+use mathlib.Core.List.{List, [], _∷_, _++_}
 use Prim.Native.Nat.{ℕ}
 use lib.Dec.{leb}
 use lib.ListN.{length}
 use Rattle.laws.specs.Lists.{isIn}
+use Rattle.laws.proofs.Says.{picked}
 use Rattle.filter.specs.declared.packet.Header.{Header}
 use Rattle.element.specs.declared.answer.Cause.{Cause}
 use Rattle.element.specs.declared.answer.Cause.the-variants.{Operation, Semantics, Coding}
@@ -19,10 +20,16 @@ use Rattle.element.specs.declared.entries.Handed.the-variants.{Filter, Identifi
 use Rattle.element.specs.declared.write.Unwritten.the-variants.{NotGiven, TooLong, NoRoom}
 use Rattle.element.specs.declared.write.Written.{Written}
 use Rattle.element.specs.declared.write.Written.the-variants.{Wrote, Refused as refusedTo}
-use Rattle.element.specs.Numbers.{causeNumber, numberOf, handedNumber, writtenNumber}
+use Rattle.element.specs.declared.portions.Portions.{Portions}
+use Rattle.element.specs.declared.portions.PortionsOutcome.{PortionsOutcome}
+use Rattle.element.specs.declared.portions.Finished.{Finished}
+use Rattle.element.specs.Head.{longest}
+use Rattle.element.specs.Numbers.{causeNumber, numberOf, handedNumber, writtenNumber, portionsNumber, finishNumber}
 use Rattle.element.specs.Read.{readElement}
 use Rattle.element.specs.Entries.{nthOf, firstOffset, lookAt, afterAll}
 use Rattle.element.specs.Write.{octetsOf, given, writtenBy, writeOf}
+use Rattle.element.specs.Portions.{fedOf, sound, takes, announceOf, feedOf, finishOf, PortionCall, announce, feed, finish, stateAfter, numberAt}
+use Rattle.element.proofs.Divided.{refused-stays, refused-anywhere, finish-anywhere, announce-gives}
 use Rattle.element.proofs.Stepping.{nth-steps, nth-number}
 use Rattle.table.specs.declared.bearer.Table.{Table}
 use Rattle.table.specs.Ranges.{TableInRange}
@@ -49,7 +56,7 @@ use Rattle.route.specs.declared.answer.Refusal.the-variants.{NotWellFormed, NoD
 use Rattle.route.specs.Routes.{numberOf as routeNumber, routeOf}
 use Rattle.promises.specs.Calls.{Call, activateDefault, activateDedicated, modify, deactivate, reject, start, synchronise, outcomeOf, matchedIn, leftBy}
 use Rattle.promises.specs.Messages.{Message, modifies, activates, transactionOf, withoutTransaction, handled}
-use Rattle.promises.specs.Calls.{numbersOf, readerNumbers, writerNumbers, replyNumbers, routeNumbers, statusNumbers}
+use Rattle.promises.specs.Calls.{numbersOf, readerNumbers, writerNumbers, replyNumbers, routeNumbers, statusNumbers, portionNumbers}
 
 -- "Every table, message .. gets an answer from document 01's list": of the numbers given, those of the call
 pub call-answers : (t : Table) (c : Call) → Gives (numbersOf c) (outcomeOf t c)
@@ -146,6 +153,30 @@ nth-is-readers = nth-number
 pub stepped-is-readers : (value : List ℕ) (n : ℕ) → handedNumber (lookAt value (afterAll value (firstOffset value) n)) ≡ numberOf (readElement value .answer)
 stepped-is-readers value n = ap handedNumber (nth-steps value n) ∙ nth-number value n
 
+-- .. the calls by which an element arrives split, on every state
+reader-too : (a : Answer) → isIn (numberOf a) (portionNumbers finish) ≡ true
+unfolding isIn
+reader-too (Filters operation) = refl
+reader-too Identifiers = refl
+reader-too (Bare operation) = refl
+reader-too (Refused refusal) = go (refusal .cause)
+  where
+    go : (c : Cause) → isIn (causeNumber c) (portionNumbers finish) ≡ true
+    go Operation = refl
+    go Semantics = refl
+    go Coding = refl
+
+pub portions-answers : (p : Portions) (c : PortionCall) → isIn (numberAt p c) (portionNumbers c) ≡ true
+unfolding isIn announceOf feedOf finishOf
+portions-answers p (announce n) = picked (λ (o : PortionsOutcome). isIn (portionsNumber (o .answer)) (0 ∷ 42 ∷ []) ≡ true) (leb n longest) _ _ refl refl
+portions-answers p (feed portion) =
+    picked (λ (o : PortionsOutcome). isIn (portionsNumber (o .answer)) (0 ∷ 13 ∷ []) ≡ true) (takes p (length portion)) _ _ refl refl
+portions-answers p finish =
+    picked Given (sound p) _ _ (picked Given (leb (p .announced) (p .fed)) _ _ (reader-too (readElement (fedOf p) .answer)) refl) refl
+  where
+    Given : Finished → Type 0
+    Given f = isIn (finishNumber f) (portionNumbers finish) ≡ true
+
 -- .. and the writer, which is lent a buffer
 pub writer-answers : (e : Element) (buffer : List ℕ) → isIn (writtenNumber (writeOf e buffer .written)) writerNumbers ≡ true
 writer-answers e buffer = written-numbers (writeOf e buffer .written)
@@ -184,6 +215,22 @@ malformed-leaves t (deactivate bearer transaction) e = deactivate-malformed t e 
 malformed-leaves t (reject transaction cause) e = reject-malformed t e transaction cause
 malformed-leaves t (start transaction bearer) e = start-malformed t e transaction bearer
 malformed-leaves t (synchronise value) e = synchronise-malformed t value e
+
+-- document 02, 2/14: "A refused portion or finish leaves everything fed before as it stood", to the octet
+pub portions-leave : (p : Portions) (portion : List ℕ) → numberAt p (feed portion) ≡ 13 → feedOf p portion .state ≡ p
+portions-leave = refused-stays
+
+-- .. anywhere in a sequence of calls on any state. Of a finish, refused or not, this is how `after` is said: it is handed the state by value
+pub portions-leave-anywhere : (p : Portions) (before rest : List PortionCall) (portion : List ℕ) → numberAt (stateAfter p before) (feed portion) ≡ 13
+    → stateAfter p (before ++ feed portion ∷ rest) ≡ stateAfter p (before ++ rest)
+portions-leave-anywhere = refused-anywhere
+
+pub finish-leaves-anywhere : (p : Portions) (before rest : List PortionCall) → stateAfter p (before ++ finish ∷ rest) ≡ stateAfter p (before ++ rest)
+finish-leaves-anywhere = finish-anywhere
+
+-- .. but a refused length does not leave it: the state is then the one that announcing 0 gives
+pub refused-length : (n : ℕ) → portionsNumber (announceOf n .answer) ≡ 42 → announceOf n .state ≡ announceOf 0 .state
+refused-length n q = announce-gives n .refused (announce-gives n .is42 .0 q)
 
 -- ".. and lent bytes unchanged": where the writer refuses, the buffer is as it was
 pub writer-leaves : (e : Element) (buffer : List ℕ) → (writtenNumber (writeOf e buffer .written) ≡ 0 → ⊥) → writeOf e buffer .buffer ≡ buffer

@@ -4,7 +4,8 @@
 -- Assumes nothing.
 use mathlib.Core.Path.{_≡_}
 use mathlib.Core.Logic.{_⊎_, _↔_}
-use mathlib.Core.List.{List}
+use mathlib.Core.Bool.{true}
+use mathlib.Core.List.{List, [], _∷_, _++_, map, flatten}
 use Prim.Native.Nat.{ℕ, _<_, _≤_}
 use lib.ListN.{length, take, drop}
 use Rattle.laws.specs.Says.{Says}
@@ -17,12 +18,19 @@ use Rattle.filter.proofs.Theorems.{fittable-says}
 use Rattle.element.specs.declared.answer.Element.{Element}
 use Rattle.element.specs.declared.write.Written.the-variants.{Wrote}
 use Rattle.element.specs.Head.{longest}
-use Rattle.element.specs.Numbers.{numberOf as readNumber, writtenNumber}
+use Rattle.element.specs.declared.portions.Portions.{Portions}
+use Rattle.element.specs.declared.portions.PortionsAnswer.the-variants.{Taken}
+use Rattle.element.specs.declared.portions.FinishAnswer.the-variants.{Read}
+use Rattle.element.specs.Numbers.{numberOf as readNumber, writtenNumber, finishNumber}
 use Rattle.element.specs.Framing.{framedOf}
 use Rattle.element.specs.Read.{readElement}
 use Rattle.element.specs.Write.{octetsOf, writeOf}
 use Rattle.element.specs.Meaning.{Octet, ElementInRange, ReadsAs, TooLongOrUnframed, SomeFilterBadlyCoded, SomeFilterUnfit, SomethingTwice}
 use Rattle.element.specs.Order.{InOrder}
+use Rattle.element.specs.Portions.{holding, fedOf, sound, leaving, announceOf, feedOf, finished, finishOf, PortionsInRange}
+use Rattle.element.specs.Portions.{PortionCall, feed, stateAfter, Reached, Feeds, AnnounceGives, FeedGives, FinishGives}
+use Rattle.element.proofs.Divided.{divided-reads, divided-between, divided-fed, state-so-far, portion-taken, announced-nothing, sound-says, one-portion}
+use Rattle.element.proofs.Divided.{announce-gives, feed-gives, finish-gives}
 use Rattle.element.proofs.Theorems.{reader-42, reader-44, reader-45, writer-10, writer-11, writer-9, written-reads, writer-order}
 use Rattle.table.specs.declared.bearer.Table.{Table}
 use Rattle.table.specs.Ranges.{TableInRange}
@@ -174,3 +182,54 @@ status-spare = spare-ignored
 -- "Bearers 5 and 6 give `60 00`", and more, computed
 pub status-examples : Examples
 status-examples = examples
+
+-- ---- Of an element that arrives split, document 02, 2/14
+-- "However it was divided, the reading or cause is the one for the whole string": for every list of at most 255 octets and every way to cut it, empty portions
+-- among them
+pub portions-reads : (xs : List ℕ) → length xs ≤ longest → (portions : List (List ℕ)) → flatten portions ≡ xs
+    → finishOf (stateAfter (announceOf (length xs) .state) (map feed portions)) ≡ finished Read xs
+portions-reads = divided-reads
+
+-- .. and with refused portions, and finishes, anywhere between
+pub portions-reads-between : (xs : List ℕ) → length xs ≤ longest → (portions : List (List ℕ)) → flatten portions ≡ xs
+    → (calls : List PortionCall) → Feeds (announceOf (length xs) .state) calls portions
+    → finishOf (stateAfter (announceOf (length xs) .state) calls) ≡ finished Read xs
+portions-reads-between = divided-between
+
+-- what was fed, the first `fed` octets of the state, is then the whole string, whatever call it is handed to
+pub portions-handed : (xs : List ℕ) → length xs ≤ longest → (portions : List (List ℕ)) → flatten portions ≡ xs
+    → (calls : List PortionCall) → Feeds (announceOf (length xs) .state) calls portions
+    → fedOf (stateAfter (announceOf (length xs) .state) calls) ≡ xs
+portions-handed = divided-fed
+
+-- .. and so far, before all was fed: what was fed is the portions so far, and one that still fits is taken
+pub portions-so-far : (n : ℕ) → n ≤ longest → (calls : List PortionCall) (portions : List (List ℕ)) → Feeds (announceOf n .state) calls portions
+    → length (flatten portions) ≤ n → stateAfter (announceOf n .state) calls ≡ holding n (flatten portions)
+portions-so-far = state-so-far
+
+pub portions-taken : (n : ℕ) → n ≤ longest → (calls : List PortionCall) (portions : List (List ℕ)) → Feeds (announceOf n .state) calls portions
+    → (portion : List ℕ) → length (flatten portions ++ portion) ≤ n
+    → feedOf (stateAfter (announceOf n .state) calls) portion ≡ leaving (holding n (flatten portions ++ portion)) Taken
+portions-taken = portion-taken
+
+-- "Announcing 0 finishes with 42."
+pub portions-nothing : finishNumber (finishOf (announceOf 0 .state)) ≡ 42
+portions-nothing = announced-nothing
+
+-- "a state no calls give": the test is true exactly of the states that some calls give; an announcement and one portion are enough
+pub portions-states : (p : Portions) → PortionsInRange p → Says (sound p) (Reached p)
+portions-states = sound-says
+
+pub portions-one : (p : Portions) → PortionsInRange p → sound p ≡ true → stateAfter (announceOf (p .announced) .state) (feed (fedOf p) ∷ []) ≡ p
+portions-one = one-portion
+
+-- "Refusals: 42 on announcing above 255; 13 when a portion would pass the announced length, or on a state no calls give; 14 when finishing early": each exactly
+-- there, and the whole outcome of each call
+pub portions-announced : (n : ℕ) → AnnounceGives n (announceOf n)
+portions-announced = announce-gives
+
+pub portions-fed : (p : Portions) → PortionsInRange p → (portion : List ℕ) → FeedGives p portion (feedOf p portion)
+portions-fed = feed-gives
+
+pub portions-finished : (p : Portions) → PortionsInRange p → FinishGives p (finishOf p)
+portions-finished = finish-gives

@@ -5,6 +5,7 @@ use mathlib.Core.List.{List, [], _∷_}
 use Rattle.laws.specs.Says.{pick}
 use Rattle.laws.specs.Lists.{All}
 use Rattle.element.specs.Meaning.{Octet}
+use Rattle.element.specs.Portions.{PortionCall, announce, feed, finish}
 use Rattle.table.specs.declared.bearer.Table.{Table}
 use Rattle.table.specs.Bearers.{emptyTable}
 use Rattle.table.specs.WellFormed.{wellFormed}
@@ -58,7 +59,7 @@ Sent (reject transaction cause) = Unit {0}
 Sent (start transaction bearer) = transaction < 2 ^ 8
 Sent (synchronise value) = Unit {0}
 
--- "Numbers given", and 12 of document 02: of these, those that a message may give; 0 where nothing is refused
+-- "Numbers given", and 12, 13 and 14 of document 02: of these, those that a message may give; 0 where nothing is refused
 abbrev pub messageNumbers : List ℕ
 messageNumbers = 0 ∷ 1 ∷ 41 ∷ 42 ∷ 43 ∷ 44 ∷ 45 ∷ 47 ∷ []
 
@@ -87,6 +88,12 @@ routeNumbers = 0 ∷ 1 ∷ 8 ∷ 2 ∷ []
 
 abbrev pub statusNumbers : List ℕ
 statusNumbers = 0 ∷ 1 ∷ 9 ∷ []
+
+-- .. and, of document 02's 2/14, an announcement, a portion and a finish
+abbrev pub portionNumbers : PortionCall → List ℕ
+portionNumbers (announce n) = 0 ∷ 42 ∷ []
+portionNumbers (feed portion) = 0 ∷ 13 ∷ []
+portionNumbers finish = 0 ∷ 13 ∷ 14 ∷ 42 ∷ 44 ∷ 45 ∷ []
 
 -- the table as a refusal leaves it: "A match is closed, whatever follows."
 abbrev pub matchedIn : Table → ℕ → Table
