@@ -50,6 +50,16 @@ pub enum Part {
     Identifier(usize),
 }
 
+// What is done with the element that arrives split: nothing by most lines; a length announced, so many octets of the line's HEX fed, the
+// finish, or a state by hand, of what was announced, what was fed, and so many octets of the line's HEX.
+pub enum Feeding {
+    Nothing,
+    Announce(u16),
+    Portion(usize),
+    Finish,
+    Force(u8, u8, usize),
+}
+
 // What changes neither the table nor the operation. `Nothing` is an empty line or a comment, and `Bad` a line that is none of the language's.
 pub enum Question {
     Nothing,
@@ -63,6 +73,7 @@ pub enum Question {
     Emit(usize),
     Status(usize),
     Compare(usize),
+    Feed(Feeding),
 }
 
 pub enum Command {

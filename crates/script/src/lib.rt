@@ -8,6 +8,7 @@ pub mod filters;
 mod input;
 pub mod kinds;
 mod parse;
+mod portions;
 pub mod reader;
 pub mod scan;
 pub mod text;

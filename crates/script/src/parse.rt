@@ -4,6 +4,7 @@ use crate::build::plan_fine;
 use crate::command::Asked;
 use crate::command::Call;
 use crate::command::Command;
+use crate::command::Feeding;
 use crate::command::Hand;
 use crate::command::Part;
 use crate::command::Plan;
@@ -16,6 +17,7 @@ use crate::scan::MOST_OCTETS;
 use crate::scan::NO_NUMBER;
 use crate::scan::Scan;
 use crate::scan::bad_scan;
+use crate::scan::copy;
 use crate::scan::half;
 use crate::scan::hex;
 use crate::scan::number;
@@ -34,11 +36,12 @@ use filter::Address;
 use filter::Header;
 
 // The words that a line begins with, and their places.
-const WORDS: [u8; 315] = *b"\
+const WORDS: [u8; 375] = *b"\
     default        dedicated      modify         deactivate     start          reject         \
     route          check          show           element        rewrite        emit           \
     force          place          compose        filter         identifier     echo           \
-    status         synchronise    compare        ";
+    status         synchronise    compare        announce       portion        finish         \
+    force-fed      ";
 
 const DEFAULT: usize = 0;
 
@@ -81,6 +84,14 @@ const STATUS: usize = 18;
 const SYNCHRONISE: usize = 19;
 
 const COMPARE: usize = 20;
+
+const ANNOUNCE: usize = 21;
+
+const PORTION: usize = 22;
+
+const FINISH: usize = 23;
+
+const FORCE_FED: usize = 24;
 
 // The words of a role, and their places.
 const ROLES: [u8; 45] = *b"idle           default        dedicated      ";
@@ -171,7 +182,7 @@ fn read_numbers(line: &[u8], scan: Scan, count: usize) -> Numbers {
     n
 }
 
-// How many numbers a call has; where it has an element's value too, this stands after them.
+// How many numbers a call or `force-fed` has; where a line has HEX too, this stands after them.
 fn numbers_of(word: usize) -> usize {
     match word {
         DEFAULT => 1,
@@ -416,6 +427,32 @@ fn parse_force(line: &[u8], s: Scan) -> Command {
     }
 }
 
+fn parse_feeding(line: &[u8], end: Scan, feeding: Feeding) -> Command {
+    parse_bare(line, end, Question::Feed(feeding))
+}
+
+fn parse_announce(line: &[u8], s: Scan) -> Command {
+    let length = number(line, s, HALF);
+    parse_feeding(line, length, Feeding::Announce(half(length.value)))
+}
+
+fn parse_portion(line: &[u8], value: Scan) -> Command {
+    parse_feeding(line, value, Feeding::Portion(size(value.value)))
+}
+
+fn parse_force_fed(line: &[u8], s: Scan, value: Scan) -> Command {
+    let n = read_numbers(line, s, numbers_of(FORCE_FED));
+    let before = n.scan;
+    if !(before.ok & (value.value <= OCTET)) {
+        return bad();
+    }
+    parse_feeding(
+        line,
+        value,
+        Feeding::Force(n.second, n.third, size(value.value)),
+    )
+}
+
 // What the word asks for; `value` is what its HEX was read as, and says nothing where it has none.
 fn parse_word(word: usize, line: &[u8], s: Scan, value: Scan) -> Command {
     match word {
@@ -436,6 +473,10 @@ fn parse_word(word: usize, line: &[u8], s: Scan, value: Scan) -> Command {
         STATUS => parse_status(line, s),
         SYNCHRONISE => parse_synchronise(line, value),
         COMPARE => parse_compare(line, value),
+        ANNOUNCE => parse_announce(line, s),
+        PORTION => parse_portion(line, value),
+        FINISH => parse_feeding(line, s, Feeding::Finish),
+        FORCE_FED => parse_force_fed(line, s, value),
         _ => bad(),
     }
 }
@@ -447,22 +488,38 @@ fn wants_compose(word: usize) -> bool {
 
 // How many words stand before the HEX.
 fn words_before(word: usize) -> usize {
-    if (word == DEDICATED) | (word == MODIFY) {
+    if (word == DEDICATED) | (word == MODIFY) | (word == FORCE_FED) {
         numbers_of(word)
     } else {
         0
     }
 }
 
+// An element's value may be what was fed.
+fn takes_fed(word: usize) -> bool {
+    (word == DEDICATED) | (word == MODIFY) | (word == ELEMENT) | (word == REWRITE)
+}
+
+// The word's HEX, into `octets`, or what was fed in place of it.
+fn parse_value(word: usize, line: &[u8], at: usize, fed: &[u8], octets: &mut [u8]) -> Scan {
+    let s = scan_from(skip_words(line, at, words_before(word)));
+    let from = skip_spaces(line, s.at);
+    let to = word_end(line, from);
+    if takes_fed(word) & same(part(line, from, to), b"fed") {
+        return Scan {
+            at: to,
+            ok: true,
+            value: copy(fed, octets) as u64,
+        };
+    }
+    hex(line, s, octets)
+}
+
 // The line from `at` on. Its HEX is read first, into `octets`, so that nothing else is lent them.
-fn parse(line: &[u8], at: usize, composing: bool, octets: &mut [u8]) -> Command {
+fn parse(line: &[u8], at: usize, composing: bool, fed: &[u8], octets: &mut [u8]) -> Command {
     let first = listed(&WORDS, line, scan_from(at));
     let word = size(first.value);
-    let value = hex(
-        line,
-        scan_from(skip_words(line, first.at, words_before(word))),
-        octets,
-    );
+    let value = parse_value(word, line, first.at, fed, octets);
     if wants_compose(word) & !composing {
         return bad();
     }
@@ -512,7 +569,7 @@ fn once(command: Command) -> Asked {
 }
 
 // A whole line. What a `repeat` has after N may be empty, a comment or a `repeat`: none of these is a command, so `parse` finds it bad.
-pub(crate) fn parse_line(line: &[u8], composing: bool, octets: &mut [u8]) -> Asked {
+pub(crate) fn parse_line(line: &[u8], composing: bool, fed: &[u8], octets: &mut [u8]) -> Asked {
     let times = times_of(line);
     if !times.ok {
         return once(bad());
@@ -521,7 +578,7 @@ pub(crate) fn parse_line(line: &[u8], composing: bool, octets: &mut [u8]) -> Ask
         return once(Command::Ask(Question::Nothing));
     }
     Asked {
-        command: parse(line, times.at, composing, octets),
+        command: parse(line, times.at, composing, fed, octets),
         times: times.value,
     }
 }

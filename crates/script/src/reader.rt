@@ -1,7 +1,9 @@
 // The lines of the input, taken apart one after the other.
 use crate::build::build_times;
 use crate::build::no_filter;
+use crate::command::Asked;
 use crate::command::Command;
+use crate::command::Feeding;
 use crate::command::Hand;
 use crate::command::Part;
 use crate::command::Question;
@@ -11,21 +13,25 @@ use crate::input::next_line;
 use crate::input::start_input;
 use crate::parse::LONGEST_LINE;
 use crate::parse::parse_line;
+use crate::portions::do_feeding;
+use crate::portions::start_portions;
 use crate::scan::part;
 use crate::text::flush;
 use crate::text::put_line;
+use element::Portions;
 use filter::Filter;
 
 // What a line is kept in: the longest line with a CR, and one octet more, by which a line that is too long is told.
 pub const LINE_ROOM: usize = 2050;
 
 // What the last line asks for, how often, and with which filter; it was the `lines`-th. An operation is `composing` from the first
-// `compose` on, and the lines to come are echoed where `echoing`. The reply goes to `at` of the replies' text. Where there is no line more,
-// `ended`, and nothing is asked.
+// `compose` on, and the lines to come are echoed where `echoing`. `portions` is the element that arrives split, so far. The reply goes to
+// `at` of the replies' text. Where there is no line more, `ended`, and nothing is asked.
 pub struct Reader {
     input: Input,
     composing: bool,
     echoing: bool,
+    portions: Portions,
     pub at: usize,
     pub ended: bool,
     pub lines: u64,
@@ -39,6 +45,7 @@ pub fn start_reader(echoing: bool) -> Reader {
         input: start_input(),
         composing: false,
         echoing,
+        portions: start_portions(),
         at: 0,
         ended: false,
         lines: 0,
@@ -52,6 +59,16 @@ fn is_compose(command: Command) -> bool {
     match command {
         Command::Compose(_) => true,
         _ => false,
+    }
+}
+
+fn feeding_in(command: Command) -> Feeding {
+    match command {
+        Command::Ask(question) => match question {
+            Question::Feed(feeding) => feeding,
+            _ => Feeding::Nothing,
+        },
+        _ => Feeding::Nothing,
     }
 }
 
@@ -85,18 +102,40 @@ fn counted(lines: u64) -> u64 {
     if lines < u64::MAX { lines + 1 } else { lines }
 }
 
-// The line that the input holds, as one line more. The octets of its HEX are put into `octets`.
-fn take_apart(reader: Reader, input: Input, line: &[u8], octets: &mut [u8], at: usize) -> Reader {
-    let asked = parse_line(line, reader.composing, octets);
+// What the word `fed` stands for is in the state.
+fn parse_with(p: Portions, line: &[u8], composing: bool, octets: &mut [u8]) -> Asked {
+    let held = p.octets;
+    parse_line(line, composing, part(&held, 0, p.fed as usize), octets)
+}
+
+// The line that the input holds, as one line more, echoed and taken apart. The octets of its HEX, or those that were fed in place of it, are
+// put into `octets`. A line of portions is done and answered here, since it needs no table.
+fn take_apart(
+    reader: Reader,
+    input: Input,
+    line: &[u8],
+    octets: &mut [u8],
+    out: &mut [u8],
+    at: usize,
+) -> Reader {
+    let before = reader.portions;
+    let asked = parse_with(before, line, reader.composing, octets);
     let command = asked.command;
     let filter = filter_of(line, command, asked.times);
+    let composing = reader.composing | is_compose(command);
+    let echoing = echoing_after(command, reader.echoing);
+    let lines = counted(reader.lines);
+    let o = put_echo(out, at, reader.echoing, line);
+    let done = do_feeding(before, feeding_in(command), octets, asked.times, out, o);
+    let portions = done.state;
     Reader {
         input,
-        composing: reader.composing | is_compose(command),
-        echoing: echoing_after(command, reader.echoing),
-        at,
+        composing,
+        echoing,
+        portions,
+        at: done.at,
         ended: false,
-        lines: counted(reader.lines),
+        lines,
         command,
         times: asked.times,
         filter,
@@ -104,10 +143,12 @@ fn take_apart(reader: Reader, input: Input, line: &[u8], octets: &mut [u8], at: 
 }
 
 fn at_end(reader: Reader, input: Input, at: usize) -> Reader {
+    let portions = reader.portions;
     Reader {
         input,
         composing: reader.composing,
         echoing: reader.echoing,
+        portions,
         at,
         ended: true,
         lines: reader.lines,
@@ -149,7 +190,5 @@ pub fn read_line(
     if !input.found {
         return at_end(reader, input, o);
     }
-    let text = part(line, 0, input.held);
-    let o = put_echo(out, o, reader.echoing, text);
-    take_apart(reader, input, text, octets, o)
+    take_apart(reader, input, part(line, 0, input.held), octets, out, o)
 }

@@ -94,6 +94,16 @@ pub fn same(a: &[u8], b: &[u8]) -> bool {
     true
 }
 
+// As many octets as there is room for; their count.
+pub(crate) fn copy(from: &[u8], to: &mut [u8]) -> usize {
+    let mut i = 0;
+    while i < from.len() && i < to.len() {
+        to[i] = from[i];
+        i += 1;
+    }
+    i
+}
+
 // A number with one digit more, or none where the octet is no digit.
 fn with_digit(n: u64, octet: u8) -> u64 {
     if LARGEST < n {

@@ -107,5 +107,7 @@ pub(crate) fn answer(
         Question::Emit(n) => ask_emit(e, n, times, out, at),
         Question::Status(n) => ask_status(t, n, times, out, at),
         Question::Compare(count) => ask_compare(t, part(octets, 0, count), times, out, at),
+        // Answered where it was read.
+        Question::Feed(_) => at,
     }
 }
