@@ -52,7 +52,7 @@ impl Kind {
 }
 
 /// An operation: the filters that it brings stand in the places of their identifiers, `identifiers` has a bit for each one named.
-#[derive(Clone, Copy)]
+#[derive(Clone, Copy, PartialEq, Eq, Debug)]
 pub struct Operation {
     pub kind: Kind,
     pub row: Row,

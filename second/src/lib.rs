@@ -6,6 +6,7 @@ pub mod filter;
 pub mod forms;
 pub mod generator;
 pub mod lines;
+pub mod portions;
 pub mod random;
 pub mod route;
 pub mod script;

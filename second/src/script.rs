@@ -2,6 +2,7 @@
 
 use crate::element::{component_of, Kind};
 use crate::filter::{Component, Filter, Header, Type};
+use crate::portions::Portions;
 use crate::table::Role;
 
 pub const LONGEST_HEX: usize = 1024;
@@ -23,12 +24,24 @@ impl Octets {
     }
 }
 
+/// An element's octets: those of its HEX or, where the word `fed` stands for it, those that were fed by the time of the call.
+#[derive(Clone, Copy)]
+pub struct Value {
+    octets: Option<Octets>,
+}
+
+impl Value {
+    pub fn slice<'a>(&'a self, portions: &'a Portions) -> &'a [u8] {
+        self.octets.as_ref().map_or(portions.fed(), Octets::slice)
+    }
+}
+
 /// One call.
 #[derive(Clone, Copy)]
 pub enum Call {
     Default { bearer: u8 },
-    Dedicated { bearer: u8, link: u8, transaction: u8, octets: Octets },
-    Modify { bearer: u8, transaction: u8, octets: Octets },
+    Dedicated { bearer: u8, link: u8, transaction: u8, value: Value },
+    Modify { bearer: u8, transaction: u8, value: Value },
     Deactivate { bearer: u8, transaction: u8 },
     Start { transaction: u8, bearer: u8 },
     Reject { transaction: u8, cause: u8 },
@@ -37,8 +50,12 @@ pub enum Call {
     Status { size: usize },
     Synchronise { octets: Octets },
     Compare { octets: Octets },
-    Element { octets: Octets },
-    Rewrite { octets: Octets, size: usize },
+    Element { value: Value },
+    Rewrite { value: Value, size: usize },
+    Announce { length: u16 },
+    Portion { octets: Octets },
+    Finish,
+    ForceFed { state: Portions },
     Compose { kind: Kind },
     Filter { identifier: u8, filter: Filter },
     Identifier { identifier: u8 },
@@ -97,7 +114,8 @@ impl<'a> Words<'a> {
         self.number(255).map(|n| n as u8)
     }
 
-    fn port(&mut self) -> Option<u16> {
+    /// Ports, and lengths that are announced.
+    fn two_octets(&mut self) -> Option<u16> {
         self.number(65535).map(|n| n as u16)
     }
 
@@ -116,6 +134,13 @@ impl<'a> Words<'a> {
 
     fn octets(&mut self) -> Option<Octets> {
         octets(self.next()?)
+    }
+
+    /// The lines that take the word `fed` for their HEX.
+    fn value(&mut self) -> Option<Value> {
+        let word = self.next()?;
+        let octets = if word == b"fed" { None } else { Some(octets(word)?) };
+        Some(Value { octets })
     }
 
     fn address(&mut self) -> Option<[u8; 16]> {
@@ -181,8 +206,12 @@ fn repeated(mut words: Words) -> Option<(u32, Call)> {
 
 fn call(words: &mut Words) -> Option<Call> {
     match words.next()? {
-        b"element" => Some(Call::Element { octets: words.octets()? }),
-        b"rewrite" => Some(Call::Rewrite { octets: words.octets()?, size: words.size()? }),
+        b"element" => Some(Call::Element { value: words.value()? }),
+        b"rewrite" => Some(Call::Rewrite { value: words.value()?, size: words.size()? }),
+        b"announce" => Some(Call::Announce { length: words.two_octets()? }),
+        b"portion" => Some(Call::Portion { octets: words.octets()? }),
+        b"finish" => Some(Call::Finish),
+        b"force-fed" => Some(Call::ForceFed { state: state(words)? }),
         b"compose" => Some(Call::Compose { kind: kind(words.next()?)? }),
         b"filter" => Some(Call::Filter { identifier: words.place()?, filter: filter(words)? }),
         b"identifier" => Some(Call::Identifier { identifier: words.place()? }),
@@ -203,12 +232,12 @@ fn table_call(name: &[u8], words: &mut Words) -> Option<Call> {
         b"default" => Some(Call::Default { bearer: words.octet()? }),
         b"dedicated" => {
             let (bearer, link) = (words.octet()?, words.octet()?);
-            let (transaction, octets) = (words.octet()?, words.octets()?);
-            Some(Call::Dedicated { bearer, link, transaction, octets })
+            let (transaction, value) = (words.octet()?, words.value()?);
+            Some(Call::Dedicated { bearer, link, transaction, value })
         }
         b"modify" => {
             let (bearer, transaction) = (words.octet()?, words.octet()?);
-            Some(Call::Modify { bearer, transaction, octets: words.octets()? })
+            Some(Call::Modify { bearer, transaction, value: words.value()? })
         }
         b"deactivate" => Some(Call::Deactivate { bearer: words.octet()?, transaction: words.octet()? }),
         b"start" => Some(Call::Start { transaction: words.octet()?, bearer: words.octet()? }),
@@ -227,8 +256,8 @@ fn header(words: &mut Words) -> Option<Header> {
         version: words.octet()?,
         address: words.address()?,
         protocol: words.octet()?,
-        local_port: words.port()?,
-        remote_port: words.port()?,
+        local_port: words.two_octets()?,
+        remote_port: words.two_octets()?,
         index: words.number(u32::MAX)?,
         class: words.octet()?,
         label: words.number(u32::MAX)?,
@@ -264,6 +293,12 @@ fn force(words: &mut Words) -> Option<Call> {
         _ => return None,
     };
     Some(Call::Force { bearer, role, transaction: words.octet()? })
+}
+
+/// `A F HEX`, as long as a state has room for it.
+fn state(words: &mut Words) -> Option<Portions> {
+    let (announced, fed) = (words.octet()?, words.octet()?);
+    Portions::by_hand(announced, fed, words.octets()?.slice())
 }
 
 /// `P D [TYPE HEX]..` up to the end of the line.

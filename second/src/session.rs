@@ -1,9 +1,10 @@
-//! One table, one operation being composed, and the calls of the bench language on them.
+//! One table, one operation being composed, one state of portions, and the calls of the bench language on them.
 
 use std::hint::black_box;
 
 use crate::calls::{self, Answer, NOT_WELL_FORMED};
 use crate::element::{self, Operation};
+use crate::portions::{Portions, Reading};
 use crate::route;
 use crate::script::{asked, Asked, Call, LARGEST_BUFFER};
 use crate::status;
@@ -14,6 +15,7 @@ use crate::text::{self, Text};
 pub struct Session {
     pub table: Table,
     pub composed: Option<Operation>,
+    pub portions: Portions,
     pub echo: bool,
     reply: Text,
 }
@@ -54,9 +56,9 @@ impl Session {
         let mut reply = std::mem::take(&mut self.reply);
         let mut done = Some(());
         // Every one of the calls is really done, so that a repeat can be timed. The long reply to an element is made once.
-        let unheard = if matches!(call, Call::Element { .. }) { times - 1 } else { 0 };
+        let unheard = if matches!(call, Call::Element { .. } | Call::Finish) { times - 1 } else { 0 };
         for _ in 0..unheard {
-            read_unheard(black_box(call));
+            black_box(&*self).read_unheard(black_box(call));
         }
         for _ in unheard..times {
             reply.clear();
@@ -74,8 +76,12 @@ impl Session {
             Call::Status { size } => written(*size, out, |buffer| status::write(&self.table, buffer)),
             Call::Synchronise { octets } => synchronise(&mut self.table, octets.slice(), out),
             Call::Compare { octets } => compare(&self.table, octets.slice(), out),
-            Call::Element { octets } => element(octets.slice(), out),
-            Call::Rewrite { octets, size } => rewrite(octets.slice(), *size, out),
+            Call::Element { value } => reading(&element::read(value.slice(&self.portions)), out),
+            Call::Rewrite { value, size } => rewrite(value.slice(&self.portions), *size, out),
+            Call::Announce { length } => announce(&mut self.portions, *length, out),
+            Call::Portion { octets } => portion(&mut self.portions, octets.slice(), out),
+            Call::Finish => finish(&self.portions, out),
+            Call::ForceFed { state } => self.force_fed(state, out),
             Call::Compose { .. } | Call::Filter { .. } | Call::Identifier { .. } | Call::Emit { .. } => {
                 return self.compose(call, out);
             }
@@ -92,15 +98,28 @@ impl Session {
         text::words(out, if on { "echo on\n" } else { "echo off\n" });
     }
 
+    fn force_fed(&mut self, state: &Portions, out: &mut Text) {
+        self.portions = *state;
+        text::words(out, "forced-fed\n");
+    }
+
+    fn read_unheard(&self, call: &Call) {
+        match call {
+            Call::Element { value } => drop(black_box(element::read(value.slice(&self.portions)))),
+            Call::Finish => drop(black_box(self.portions.finish())),
+            _ => unreachable!("no call that reads"),
+        }
+    }
+
     fn answer(&mut self, call: &Call) -> Option<Answer> {
-        let table = &mut self.table;
+        let (table, portions) = (&mut self.table, &self.portions);
         match *call {
             Call::Default { bearer } => Some(calls::activate_default(table, bearer)),
-            Call::Dedicated { bearer, link, transaction, ref octets } => {
-                Some(calls::activate_dedicated(table, bearer, link, transaction, octets.slice()))
+            Call::Dedicated { bearer, link, transaction, ref value } => {
+                Some(calls::activate_dedicated(table, bearer, link, transaction, value.slice(portions)))
             }
-            Call::Modify { bearer, transaction, ref octets } => {
-                Some(calls::modify(table, bearer, transaction, octets.slice()))
+            Call::Modify { bearer, transaction, ref value } => {
+                Some(calls::modify(table, bearer, transaction, value.slice(portions)))
             }
             Call::Deactivate { bearer, transaction } => Some(calls::deactivate(table, bearer, transaction)),
             Call::Start { transaction, bearer } => Some(calls::start(table, transaction, bearer)),
@@ -175,16 +194,31 @@ fn compare(table: &Table, octets: &[u8], out: &mut Text) {
     }
 }
 
-fn read_unheard(call: &Call) {
-    if let Call::Element { octets } = call {
-        let _ = black_box(element::read(octets.slice()));
+fn announce(portions: &mut Portions, length: u16, out: &mut Text) {
+    match portions.announce(length) {
+        Ok(()) => text::line(out, "announced ", length),
+        Err(cause) => text::line(out, "cause ", cause),
     }
 }
 
-fn element(octets: &[u8], out: &mut Text) {
-    match element::read(octets) {
-        Ok(operation) => text::operation(out, &operation),
-        Err(cause) => text::line(out, "cause ", cause),
+fn portion(portions: &mut Portions, octets: &[u8], out: &mut Text) {
+    match portions.feed(octets) {
+        Ok(fed) => text::line(out, "fed ", fed),
+        Err(number) => text::line(out, "refused ", number),
+    }
+}
+
+fn finish(portions: &Portions, out: &mut Text) {
+    match portions.finish() {
+        Ok(read) => reading(&read, out),
+        Err(number) => text::line(out, "refused ", number),
+    }
+}
+
+fn reading(read: &Reading, out: &mut Text) {
+    match read {
+        Ok(operation) => text::operation(out, operation),
+        Err(cause) => text::line(out, "cause ", *cause),
     }
 }
 
