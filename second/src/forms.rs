@@ -1,11 +1,14 @@
 //! The forms that a reply can take, and how often each stands in an output.
 
+use std::iter::{once, repeat};
+
 use crate::lines::{Line, LONGEST_LINE};
+use crate::portions::Unsound;
 use crate::session::Session;
 use crate::text::Text;
 
 /// Every form that the bench language has, numbers and lists left out but for those that are the point of the reply.
-pub const FORMS: [&str; 80] = [
+pub const FORMS: [&str; 122] = [
     "accept",
     "accept follow-up",
     "reject 41",
@@ -86,39 +89,129 @@ pub const FORMS: [&str; 80] = [
     "compare: refused 1",
     "compare: refused 12",
     "compare: bad line",
+    "announce: announced",
+    "announce: announced 0",
+    "announce: announced 255",
+    "announce: cause 42",
+    "announce: bad line",
+    "portion: fed",
+    "portion: fed 0",
+    "portion: fed 255",
+    "portion: refused 13, past what was announced",
+    "portion: refused 13, more fed than announced",
+    "portion: refused 13, an octet past what was fed",
+    "portion: bad line",
+    "finish: create",
+    "finish: add",
+    "finish: replace",
+    "finish: delete-filters",
+    "finish: delete-tft",
+    "finish: none",
+    "finish: cause 42",
+    "finish: cause 44",
+    "finish: cause 45",
+    "finish: refused 13, more fed than announced",
+    "finish: refused 13, an octet past what was fed",
+    "finish: refused 14",
+    "finish: bad line",
+    "force-fed: forced-fed",
+    "force-fed: bad line",
+    "element fed: read",
+    "element fed: cause",
+    "rewrite fed: wrote",
+    "rewrite fed: refused 9",
+    "rewrite fed: cause",
+    "modify fed: accept",
+    "modify fed: reject for the element",
+    "modify fed: reject for the table",
+    "modify fed: refused 1",
+    "dedicated fed: accept",
+    "dedicated fed: reject for the element",
+    "dedicated fed: reject for the table",
+    "dedicated fed: refused 1",
+    "fed: conflict",
+    "fed: bad line",
 ];
 
 /// The lines whose replies are counted apart, since others give some of the same.
-const COUNTED_APART: [&str; 3] = ["status", "synchronise", "compare"];
+const COUNTED_APART: [&str; 11] = [
+    "status",
+    "synchronise",
+    "compare",
+    "announce",
+    "portion",
+    "finish",
+    "force-fed",
+    "element fed",
+    "rewrite fed",
+    "modify fed",
+    "dedicated fed",
+];
+
+/// The lines that take `fed` for their HEX.
+const TAKE_FED: [&str; 4] = ["element", "rewrite", "modify", "dedicated"];
 
 const LEAST: usize = 10;
 
-/// A line of output that is a reply, and the word of the line that it replies to.
+/// A line of output that is a reply or part of one, the word of the line that it replies to, and what was wrong with the state of
+/// portions when it came. Of a reply of many lines the first alone has a word: filters read the same whatever line they are for.
 #[derive(Clone, PartialEq, Eq, Debug)]
 pub struct Reply {
     word: String,
+    unsound: Option<Unsound>,
     line: String,
 }
 
 impl Reply {
     fn form(&self) -> String {
         let form = form(&self.line);
-        if COUNTED_APART.contains(&self.word.as_str()) {
-            format!("{}: {form}", self.word)
-        } else {
-            form
+        if !COUNTED_APART.contains(&self.word.as_str()) {
+            return form;
+        }
+        let fed = self.word.ends_with(" fed");
+        match form.as_str() {
+            "refused 13" => format!("{}: refused 13, {}", self.word, self.why_13()),
+            "accept follow-up" | "release" | "re-attach" if fed => "fed: conflict".to_string(),
+            "bad line" if fed => "fed: bad line".to_string(),
+            _ if fed => format!("{}: {}", self.word, outcome(&form)),
+            _ => format!("{}: {form}", self.word),
+        }
+    }
+
+    /// The number is one for all three.
+    fn why_13(&self) -> &'static str {
+        match self.unsound {
+            None => "past what was announced",
+            Some(Unsound::MoreFedThanAnnounced) => "more fed than announced",
+            Some(Unsound::OctetPastFed) => "an octet past what was fed",
         }
     }
 }
 
-/// The word that says what a line asks for: its first one, or the one after `repeat N`.
+/// The word that says what a line asks for: its first one, or the one after `repeat N`. Where it takes `fed` and has it, that stands with it.
 fn word(line: &[u8]) -> String {
     let mut words = line.split(|octet| *octet == b' ').filter(|word| !word.is_empty());
     let word = match words.next() {
         Some(b"repeat") => words.nth(1),
         first => first,
     };
-    String::from_utf8_lossy(word.unwrap_or_default()).into_owned()
+    let word = String::from_utf8_lossy(word.unwrap_or_default()).into_owned();
+    if TAKE_FED.contains(&word.as_str()) && words.any(|after| after == b"fed") {
+        format!("{word} fed")
+    } else {
+        word
+    }
+}
+
+/// What is told apart where `fed` stands: each form is counted where HEX does.
+fn outcome(form: &str) -> &str {
+    match form {
+        "create" | "add" | "replace" | "delete-filters" | "delete-tft" | "none" => "read",
+        "cause 42" | "cause 44" | "cause 45" => "cause",
+        "reject 42" | "reject 44" | "reject 45" => "reject for the element",
+        "reject 41" | "reject 43" | "reject 47" => "reject for the table",
+        _ => form,
+    }
 }
 
 /// The form of a line of output, or the line itself where it has none.
@@ -129,6 +222,7 @@ fn form(line: &str) -> String {
         ["accept" | "release" | "started" | "closed" | "bearer" | "forced" | "identifier", _] => {
             words[0].to_string()
         }
+        ["announced" | "fed", length] if !matches!(*length, "0" | "255") => words[0].to_string(),
         ["placed" | "wrote", _, _] => words[0].to_string(),
         ["reject", _, cause] => format!("reject {cause}"),
         ["bearer", _, role, .., "transaction", _] => format!("bearer {role}"),
@@ -169,16 +263,17 @@ pub fn played(mut script: &[u8]) -> (Text, Vec<Reply>) {
     let (mut output, mut replies) = (Text::new(), Vec::new());
     while line.next(&mut script).expect("a slice is read") {
         session.write_echo(&line.octets, line.is_too_long(), &mut output);
-        let start = output.len();
+        let (start, unsound) = (output.len(), session.portions.unsound());
         session.do_line(line.number, &line.octets, line.is_too_long(), &mut output);
-        replies.extend(replies_in(&output[start..], &line.octets));
+        replies.extend(replies_in(&output[start..], &line.octets, unsound));
     }
     (output, replies)
 }
 
-fn replies_in(output: &[u8], asked: &[u8]) -> Vec<Reply> {
+fn replies_in(output: &[u8], asked: &[u8], unsound: Option<Unsound>) -> Vec<Reply> {
     let lines = String::from_utf8_lossy(output);
-    lines.lines().map(|line| Reply { word: word(asked), line: line.to_string() }).collect()
+    let words = once(word(asked)).chain(repeat(String::new()));
+    lines.lines().zip(words).map(|(line, word)| Reply { word, unsound, line: line.to_string() }).collect()
 }
 
 /// How often each form stands in replies, and what is wrong: lines of no form, and forms too rare.
@@ -228,6 +323,39 @@ mod tests {
         assert_eq!(forms("status 2\nstatus 1\nstatus"), ["wrote", "refused 9", "bad line"].map(of("status")));
         assert_eq!(forms("  repeat 2   compare -\nrepeat compare -\n"), ["compare: refused 12", "bad line"]);
         assert_eq!(forms("force 5 idle 1\nsynchronise -\n"), ["forced", "synchronise: refused 1"]);
+    }
+
+    #[test]
+    fn replies_to_the_lines_of_portions_are_told_apart() {
+        assert_eq!(
+            forms("announce 0\nannounce 9\nannounce 256\nannounce 65536"),
+            ["announced 0", "announced", "cause 42", "bad line"].map(of("announce"))
+        );
+        assert_eq!(
+            forms("portion -\nportion 00\nportion fed"),
+            ["fed 0", "refused 13, past what was announced", "bad line"].map(of("portion"))
+        );
+        let full = forms(&format!("announce 255\nrepeat 254 portion C0\n repeat 1 portion {}\n", "40"));
+        assert_eq!(full, ["announce: announced 255", "portion: fed", "portion: fed 255"]);
+        let unsound = forms("force-fed 0 1 C0\nportion -\nfinish\nforce-fed 9 0 C0\nportion -\nfinish\n");
+        let (more, past) = ("refused 13, more fed than announced", "refused 13, an octet past what was fed");
+        assert_eq!(unsound[1..3], [of("portion")(more), of("finish")(more)]);
+        assert_eq!(unsound[4..], [of("portion")(past), of("finish")(past)]);
+    }
+
+    #[test]
+    fn what_was_fed_is_counted_apart_from_hexadecimal() {
+        let fed = |lines: &str| {
+            forms(&format!("default 5\nforce-fed 9 9 21310A0530115013C4\n{lines}"))[2..].to_vec()
+        };
+        let filter = "  filter protocol".to_string();
+        assert_eq!(fed("element C0"), ["none", "end"]);
+        assert_eq!(fed("element fed"), ["element fed: read".to_string(), filter.clone(), "end".to_string()]);
+        assert_eq!(fed("finish"), ["finish: create".to_string(), filter, "end".to_string()]);
+        assert_eq!(fed("modify 5 0 fed\nmodify 5 0 C0"), ["modify fed: accept", "accept"]);
+        assert_eq!(fed("repeat 2 dedicated 6 5 0 fed"), ["dedicated fed: reject for the table"]);
+        assert_eq!(fed("rewrite fed 8\nrewrite fed"), ["rewrite fed: refused 9", "fed: bad line"]);
+        assert_eq!(fed("element Fed\nportion fed"), ["bad line", "portion: bad line"]);
     }
 
     #[test]

@@ -23,7 +23,7 @@ impl Generator {
     }
 
     fn echoed_line(&mut self) {
-        match self.random.weighted(&[12, 4, 4, 3, 8, 8, 2, 2, 1]) {
+        match self.random.weighted(&[12, 4, 4, 3, 8, 8, 2, 2, 2, 1]) {
             0 => self.table_call(),
             1 => self.element_line(),
             2 => self.repeated(),
@@ -32,6 +32,7 @@ impl Generator {
             5 => self.passed_over(),
             6 => self.long_line(),
             7 => self.bad_echo(),
+            8 => self.portion_call(),
             _ => self.echo("on"),
         }
     }

@@ -1,9 +1,10 @@
 //! Elements: sound ones, ones that are almost so, and ones that were damaged on the way.
 
 use super::Generator;
-use crate::element::Kind;
+use crate::element::{filters_in, Kind, LARGEST_COUNT};
 use crate::filter::{Component, Filter, LARGEST_LABEL};
 use crate::random::Random;
+use crate::table::{connection_of, Role};
 
 pub fn hex(octets: &[u8]) -> String {
     if octets.is_empty() {
@@ -146,9 +147,23 @@ pub fn with_remote6(random: &mut Random) -> Vec<Component> {
     components
 }
 
+/// No contents, an unknown type, a component cut short, a type twice, and types that exclude each other.
+const BADLY_CODED: &[&[u8]] = &[
+    &[],
+    &[0x31, 6],
+    &[0x30],
+    &[0x50, 0x13],
+    &[0x30, 6, 0x30, 6],
+    &[0x40, 0, 1, 0x41, 0, 1, 0, 2],
+    &[0x51, 0, 1, 0, 2, 0x50, 0, 1],
+];
+
 fn entry(identifier: u8, direction: u8, precedence: u8, components: &[Component]) -> Vec<u8> {
-    let contents = contents(components);
-    [vec![direction << 4 | identifier, precedence, contents.len() as u8], contents].concat()
+    entry_of(direction << 4 | identifier, precedence, &contents(components))
+}
+
+fn entry_of(first: u8, precedence: u8, contents: &[u8]) -> Vec<u8> {
+    [&[first, precedence, contents.len() as u8], contents].concat()
 }
 
 fn code(kind: Kind) -> u8 {
@@ -170,16 +185,38 @@ impl Generator {
             Kind::DeleteTft | Kind::None => Vec::new(),
             _ => self.filter_entries(bearer),
         };
+        let mut octets = self.assembled(kind, &entries);
+        if self.random.one_in(7) {
+            damage(&mut self.random, &mut octets);
+        }
+        octets
+    }
+
+    fn assembled(&mut self, kind: Kind, entries: &[Vec<u8>]) -> Vec<u8> {
         let mut octets = vec![code(kind) << 5 | (entries.len() as u8 & 0x0F)];
         octets.extend(entries.concat());
         if self.random.one_in(12) {
             octets[0] |= 0x10;
             octets.extend(self.parameters());
         }
-        if self.random.one_in(7) {
-            damage(&mut self.random, &mut octets);
-        }
         octets
+    }
+
+    /// Filters with one among them that no packet fits, that is badly coded, or that is there twice.
+    pub fn spoilt_element_for(&mut self, bearer: u8) -> Vec<u8> {
+        let kind = self.random.pick(&[Kind::Create, Kind::Create, Kind::Add, Kind::Replace]);
+        let mut entries = self.filter_entries(bearer);
+        let at = self.random.below(entries.len());
+        let (first, precedence) = (entries[at][0], entries[at][1]);
+        match self.random.below(4) {
+            0 | 1 => {
+                entries[at] = entry_of(first, precedence, &contents(&unfit_components(&mut self.random)))
+            }
+            2 => entries[at] = entry_of(first, precedence, self.random.pick(BADLY_CODED)),
+            _ => entries.insert(0, entries[at].clone()),
+        }
+        entries.truncate(LARGEST_COUNT);
+        self.assembled(kind, &entries)
     }
 
     fn deletions(&mut self, bearer: u8) -> Vec<Vec<u8>> {
@@ -246,6 +283,19 @@ impl Generator {
         octets
     }
 
+    /// Mostly one filter with a precedence that the connection's default holds.
+    pub fn conflicting_element_for(&mut self, kind: Kind, bearer: u8) -> Vec<u8> {
+        let kind = if kind == Kind::Create { kind } else { self.random.pick(&[Kind::Add, Kind::Replace]) };
+        let role = self.table().bearer(bearer).map_or(Role::Idle, |bearer| bearer.role);
+        let default = self.table().bearer(connection_of(bearer, role).unwrap_or(bearer));
+        let held: Vec<u8> = default
+            .map_or(Vec::new(), |default| filters_in(&default.row).map(|(_, f)| f.precedence).collect());
+        let (identifier, any) = (self.random.below(16) as u8, self.precedence());
+        let precedence = self.random.any(&held).unwrap_or(any);
+        let entry = self.filter_entry(identifier, precedence);
+        self.assembled(kind, &[entry])
+    }
+
     fn parameters(&mut self) -> Vec<u8> {
         let mut octets = Vec::new();
         for _ in 0..1 + self.random.below(3) {
@@ -275,9 +325,13 @@ fn damage(random: &mut Random, octets: &mut Vec<u8>) {
     }
 }
 
-/// A rightly framed parameter that takes the element to about 255 octets.
+/// To about 255 octets.
 fn lengthen(random: &mut Random, octets: &mut Vec<u8>) {
-    let goal = random.pick(&[254, 255, 256, 257, 300]);
+    lengthen_to(random.pick(&[254, 255, 256, 257, 300]), octets);
+}
+
+/// A rightly framed parameter that takes the element to that many octets.
+pub fn lengthen_to(goal: usize, octets: &mut Vec<u8>) {
     let room = (goal - octets.len().min(goal)).saturating_sub(2).min(255);
     octets[0] |= 0x10;
     octets.extend([1, room as u8]);

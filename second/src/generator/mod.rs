@@ -3,6 +3,7 @@
 mod echo;
 mod elements;
 mod headers;
+mod portions;
 mod rubbish;
 mod status;
 
@@ -24,7 +25,17 @@ pub fn script(seed: u64, lines: u64) -> Vec<u8> {
     generator.script
 }
 
-/// The table is known at every line, since the script is done as it is written.
+/// Elements as scripts have them, for a table as scripts build it.
+pub fn elements(seed: u64, count: usize) -> Vec<Vec<u8>> {
+    let mut generator = Generator::new(seed);
+    let mut next = || {
+        generator.action();
+        generator.any_element()
+    };
+    (0..count).map(|_| next()).collect()
+}
+
+/// The table and the portions are known at every line, since the script is done as it is written.
 struct Generator {
     random: Random,
     session: Session,
@@ -50,7 +61,7 @@ impl Generator {
         if self.session.echo && self.random.one_in(20) {
             self.echo("off");
         }
-        match self.random.weighted(&[64, 14, 5, 2, 3, 4, 2, 1, 1]) {
+        match self.random.weighted(&[64, 14, 5, 2, 3, 4, 2, 1, 1, 5]) {
             0 => self.table_call(),
             1 => self.element_line(),
             2 => self.compose(),
@@ -59,7 +70,8 @@ impl Generator {
             5 => self.bad_line(),
             6 => self.passed_over(),
             7 => self.echo_stretch(),
-            _ => self.look_or_reset(),
+            8 => self.look_or_reset(),
+            _ => self.portions(),
         }
         if !self.session.table.is_well_formed() {
             self.clear();
@@ -160,11 +172,11 @@ impl Generator {
 
     fn table_call(&mut self) {
         let (more_defaults, more_status) = match self.bearers(|role| role == Role::Default).len() {
-            0 => (60, 35),
+            0 => (60, 40),
             1 => (4, 6),
             _ => (1, 6),
         };
-        match self.random.weighted(&[more_defaults, 18, 28, 2, 7, 3, 22, more_status]) {
+        match self.random.weighted(&[more_defaults, 18, 28, 2, 8, 3, 22, more_status]) {
             0 => self.activate_default(),
             1 => self.activate_dedicated(),
             2 => self.modify(),
@@ -209,7 +221,7 @@ impl Generator {
         let transaction = match self.random.below(10) {
             0 => self.random.pick(&[0, 255]),
             1 => self.random.pick(&[1, 254]),
-            2 | 3 => self.open_transaction(),
+            2..=4 => self.open_transaction(),
             _ => any,
         };
         self.say(&format!("start {transaction} {bearer}"));
@@ -357,10 +369,11 @@ impl Generator {
 
     fn repeated(&mut self) {
         self.repeat = Some(1 + self.random.below(12));
-        match self.random.below(6) {
+        match self.random.below(7) {
             0..=2 => self.table_call(),
             3 => self.element_line(),
             4 => self.emit(),
+            5 => self.portion_call(),
             _ => self.look_or_reset(),
         }
         self.repeat = None;
@@ -395,6 +408,9 @@ impl Generator {
         }
         for _ in 0..self.random.below(3) {
             self.status_line();
+        }
+        if !self.random.one_in(3) {
+            self.use_fed_on_table();
         }
         if self.random.one_in(2) {
             self.say("show");

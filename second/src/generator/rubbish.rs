@@ -52,6 +52,19 @@ const LINES: &[&str] = &[
     "compare 60",
     "repeat 2 compare 60 00",
     "repeat 3 status 4",
+    "announce 9",
+    "announce 65536",
+    "portion 2131",
+    "portion -",
+    "repeat 3 portion C0",
+    "finish",
+    "force-fed 9 4 21310A05",
+    "force-fed 1 2 C0",
+    "element fed",
+    "rewrite fed 9",
+    "modify 5 0 fed",
+    "dedicated 6 5 0 fed",
+    "portion fed",
 ];
 
 const BAD_ECHOES: &[&str] = &[
@@ -136,6 +149,121 @@ const BAD_STATUSES: &[&str] = &[
 
 pub fn bad_status(random: &mut Random) -> &'static str {
     random.pick(BAD_STATUSES)
+}
+
+/// Near `announce`, `portion`, `finish`, `force-fed`, and the word `fed` for a HEX.
+const BAD_PORTIONS: [&[&str]; 5] = [
+    &[
+        "announce",
+        "announce -",
+        "announce 65536",
+        "announce 65791",
+        "announce 4294967295",
+        "announce 00000000009",
+        "announce -1",
+        "announce 9 9",
+        "announce fed",
+        "announce 0x9",
+        "Announce 9",
+        "announced 9",
+        "repeat 2 announce",
+    ],
+    &[
+        "portion",
+        "portion 2",
+        "portion 213",
+        "portion 21 31",
+        "portion - -",
+        "portion --",
+        "portion fed",
+        "portion 0x21",
+        "portion 2G",
+        "portions 21",
+        "PORTION 21",
+        "repeat 2 portion",
+        "repeat 0 portion 21",
+        "repeat 2 portion fed",
+    ],
+    &[
+        "finish -",
+        "finish fed",
+        "finish 9",
+        "finish #",
+        "Finish",
+        "finished",
+        "repeat finish",
+        "repeat 2 finish 2",
+        "repeat fed finish",
+    ],
+    &[
+        "force-fed",
+        "force-fed 1 1",
+        "force-fed 1 1 C",
+        "force-fed 1 1 C0 C0",
+        "force-fed 1 1 fed",
+        "force-fed 256 1 C0",
+        "force-fed 1 256 C0",
+        "force-fed fed 1 C0",
+        "force-fed 1 C0",
+        "force-fed - - -",
+        "force fed 1 1 C0",
+        "force_fed 1 1 C0",
+        "forced-fed",
+    ],
+    &[
+        "fed",
+        "fed 1",
+        "element Fed",
+        "element FED",
+        "element fed fed",
+        "element fed 9",
+        "element fe d",
+        "element fed.",
+        "element - fed",
+        "elements fed",
+        "rewrite fed",
+        "rewrite fed 513",
+        "rewrite fed -",
+        "rewrite fed fed",
+        "rewrite 9 fed",
+        "rewrite FED 9",
+        "modify fed",
+        "modify 5 fed",
+        "modify 5 0 FED",
+        "modify 5 0 fed fed",
+        "modify 5 fed 0",
+        "modify fed 0 fed",
+        "modify 5 0 fed C0",
+        "dedicated fed",
+        "dedicated 6 5 fed",
+        "dedicated 6 5 0 Fed",
+        "dedicated 6 5 0 fed 0",
+        "dedicated 6 fed 0 fed",
+        "dedicated 6 5 0 0 fed",
+        "synchronise fed",
+        "compare fed",
+        "compare FED",
+        "status fed",
+        "emit fed",
+        "route 5 4 fed 17 1000 5060 0 0 0",
+        "place 5 0 0 0 30 fed",
+        "identifier fed",
+        "compose fed",
+        "repeat 2 element fed fed",
+        "repeat 2 modify 5 0 fed 0",
+    ],
+];
+
+/// One of them, or a HEX that is longer than its place takes.
+pub fn bad_portion(random: &mut Random) -> String {
+    match random.below(16) {
+        0 => format!("portion {}", "A5".repeat(513 + random.below(2))),
+        1 => format!("force-fed 255 255 {}", "00".repeat(256 + random.below(258))),
+        _ => {
+            let near = BAD_PORTIONS[random.weighted(&[2, 2, 4, 2, 4])];
+            random.pick(near).to_string()
+        }
+    }
 }
 
 /// Dotted, but for something.
@@ -292,7 +420,7 @@ pub fn rubbish(seed: u64) -> Vec<u8> {
 }
 
 fn rubbish_line(random: &mut Random) -> Vec<u8> {
-    match random.below(10) {
+    match random.below(11) {
         0 => (0..random.below(300)).map(|_| random.octet()).collect(),
         1 => long_line(random),
         2 => vec![random.pick(b" #0C\0\xFF\r"); random.below(20_000)],
@@ -301,6 +429,7 @@ fn rubbish_line(random: &mut Random) -> Vec<u8> {
         5 => bad_line(random),
         6 => bad_echo(random).as_bytes().to_vec(),
         7 => bad_status(random).as_bytes().to_vec(),
+        8 => bad_portion(random).into_bytes(),
         _ => random.pick(LINES).as_bytes().to_vec(),
     }
 }

@@ -11,7 +11,7 @@ const SPARE: Identities = 0x001F;
 
 impl Generator {
     pub fn status_line(&mut self) {
-        match self.random.weighted(&[5, 7, 12, 1]) {
+        match self.random.weighted(&[10, 14, 24, 3]) {
             0 => self.status(),
             1 => self.synchronise(),
             2 => self.compare(),
@@ -102,7 +102,7 @@ impl Generator {
     fn status_value(&mut self, shown: Identities) -> String {
         let spare = if self.random.one_in(4) { self.random.number() as Identities & SPARE } else { 0 };
         let mut octets = (shown ^ spare).to_le_bytes().to_vec();
-        if self.random.one_in(9) {
+        if self.random.one_in(8) {
             let length = self.random.pick(&[0, 0, 1, 1, 1, 3, 3, 3, 4, 8, 255, 256, 257, 512, 513]);
             octets.resize(length, spare as u8);
         }
