@@ -55,11 +55,11 @@ abbrev pub agreesProtocol : Protocol → ℕ → Bool
 agreesProtocol noProtocol protocol = true
 agreesProtocol (isProtocol x) protocol = eqb x protocol
 
--- "ranges inclusive"
-abbrev pub agreesPort : Port → ℕ → ℕ → Bool
-agreesPort noPort protocol port = true
-agreesPort (isPort x) protocol port = carriesPorts protocol && eqb x port
-agreesPort (Range low high) protocol port = carriesPorts protocol && within low high port
+-- "ranges inclusive". Which protocols carry ports is a parameter here and below: `fits` takes `carriesPorts`, and what is said of fit as it was takes another
+abbrev pub agreesPortBy : (ℕ → Bool) → Port → ℕ → ℕ → Bool
+agreesPortBy carries noPort protocol port = true
+agreesPortBy carries (isPort x) protocol port = carries protocol && eqb x port
+agreesPortBy carries (Range low high) protocol port = carries protocol && within low high port
 
 abbrev pub agreesIndex : Index → ℕ → ℕ → Bool
 agreesIndex noIndex protocol index = true
@@ -75,15 +75,25 @@ agreesLabel (isLabel x) version label = carriesLabel version && eqb x label
 
 -- ---- "A filter fits if every component agrees"
 -- those on the protocol and on fields that count only for some protocols
-unfoldable pub agreesTransport : Filter → Header → Bool
-agreesTransport f h =
-    agreesProtocol (f .protocol) (h .protocol) && agreesPort (f .local) (h .protocol) (h .local) && agreesPort (f .remote) (h .protocol) (h .remote)
-    && agreesIndex (f .index) (h .protocol) (h .index)
+abbrev pub agreesTransportBy : (ℕ → Bool) → Filter → Header → Bool
+agreesTransportBy carries f h =
+    agreesProtocol (f .protocol) (h .protocol) && agreesPortBy carries (f .local) (h .protocol) (h .local)
+    && agreesPortBy carries (f .remote) (h .protocol) (h .remote) && agreesIndex (f .index) (h .protocol) (h .index)
 
 -- the others
 unfoldable pub agreesNetwork : Filter → Header → Bool
 agreesNetwork f h =
     agreesAddress (f .address) (h .version) (h .address) && agreesClass (f .class) (h .class) && agreesLabel (f .label) (h .version) (h .label)
 
+abbrev pub fitsBy : (ℕ → Bool) → Filter → Header → Bool
+fitsBy carries f h = agreesTransportBy carries f h && agreesNetwork f h
+
 unfoldable pub fits : Filter → Header → Bool
-fits f h = agreesTransport f h && agreesNetwork f h
+fits f h = fitsBy carriesPorts f h
+
+-- ---- parts of `fits`, for the functions that give them
+abbrev pub agreesPort : Port → ℕ → ℕ → Bool
+agreesPort component protocol port = agreesPortBy carriesPorts component protocol port
+
+unfoldable pub agreesTransport : Filter → Header → Bool
+agreesTransport f h = agreesTransportBy carriesPorts f h
