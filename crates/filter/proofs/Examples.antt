@@ -8,7 +8,7 @@ use Rattle.filter.specs.declared.component.Filter.{Filter}
 use Rattle.filter.specs.declared.packet.Header.{Header}
 use Rattle.filter.specs.Coding.{held, wellCoded, emptyPlace, uplink}
 use Rattle.filter.specs.Build.{Component, ipv4Remote, ipv6Remote, protocol, localPort, localRange, remotePort, index, class, label, excluded, bare, added, built}
-use Rattle.filter.specs.Fit.{validHeader, agreesTransport, agreesNetwork, fits}
+use Rattle.filter.specs.Fit.{validHeader, agreesNetwork, fits}
 use Rattle.filter.specs.Fittable.{sample, fittable}
 
 -- precedence 10, both directions
@@ -41,9 +41,13 @@ examples : every (
     -- UDP, remote port 5060
     fits (with (protocol 17 ∷ remotePort 5060 ∷ [])) (packet 4 17 5060 0)
     ∷ not (fits (with (protocol 17 ∷ remotePort 5060 ∷ [])) (packet 4 17 5061 0))
-    -- ports count for 6 and 17 alone, the index for 50 and 51 alone
+    -- ports count for 6, 17 and 132 alone, the index for 50 and 51 alone
     ∷ fits (with (remotePort 5060 ∷ [])) (packet 4 6 5060 0)
+    ∷ fits (with (remotePort 5060 ∷ [])) (packet 6 132 5060 0)
+    ∷ fits (with (protocol 132 ∷ localPort 1000 ∷ [])) (packet 4 132 0 0)
+    ∷ not (fits (with (protocol 132 ∷ localPort 1000 ∷ remotePort 5060 ∷ [])) (packet 4 132 5061 0))
     ∷ not (fits (with (remotePort 5060 ∷ [])) (packet 4 1 5060 0))
+    ∷ not (fits (with (remotePort 5060 ∷ [])) (packet 4 136 5060 0))
     ∷ fits (with (index 7 ∷ [])) (packet 6 51 0 0)
     ∷ not (fits (with (index 7 ∷ [])) (packet 6 17 0 0))
     -- an address with its mask, of its own version alone
@@ -58,12 +62,16 @@ examples : every (
     -- a range holds both its ends
     ∷ fits (with (localRange 1000 1000 ∷ [])) (packet 4 6 0 0)
     ∷ not (fits (with (localRange 1001 2000 ∷ [])) (packet 4 6 0 0))
-    -- no packet: a range that ends before it starts, ICMP with a port, ports with an index, IPv4 with a label
+    ∷ not (fits (with (localRange 1 999 ∷ [])) (packet 4 6 0 0))
+    -- no packet: a range that ends before it starts, ICMP or UDP-Lite with a port, SCTP with an index, ports with an index, IPv4 with a label
     ∷ not (fittable (with (localRange 2 1 ∷ [])))
     ∷ not (fittable (with (protocol 1 ∷ remotePort 5060 ∷ [])))
+    ∷ not (fittable (with (protocol 136 ∷ remotePort 5060 ∷ [])))
+    ∷ not (fittable (with (protocol 132 ∷ index 7 ∷ [])))
     ∷ not (fittable (with (index 7 ∷ remotePort 5060 ∷ [])))
     ∷ not (fittable (with (ipv4Remote 0 0 ∷ label 5 ∷ [])))
-    -- some packet: every other component together
+    -- some packet: SCTP with both ports; every other component together
+    ∷ fittable (with (protocol 132 ∷ localRange 1 2 ∷ remotePort 5060 ∷ []))
     ∷ fittable (with (label 1048575 ∷ class 1 255 ∷ remotePort 65535 ∷ localRange 0 65535 ∷ []))
     -- a filter without a component fits every valid packet, and is not held
     ∷ fits (bare 0 0) (packet 4 1 0 0)
@@ -91,5 +99,5 @@ examples : every (
     ∷ not (uplink (bare 0 1))
     ∷ [])
     ≡ true
-unfolding every held wellCoded emptyPlace uplink excluded added built validHeader agreesTransport agreesNetwork fits sample fittable sameUnder
+unfolding every held wellCoded emptyPlace uplink excluded added built validHeader agreesNetwork fits sample fittable sameUnder
 examples = refl

@@ -27,9 +27,9 @@ validAt version label = eqb version 4 || (eqb version 6 && leb label largestLabe
 unfoldable pub validHeader : Header → Bool
 validHeader h = validAt (h .version) (h .label)
 
--- "Ports count only for protocols 6 and 17"
+-- "Ports count only for protocols 6 and 17"; document 02, 4/14: "132 carries both ports as well"
 abbrev pub carriesPorts : ℕ → Bool
-carriesPorts protocol = eqb protocol 6 || eqb protocol 17
+carriesPorts protocol = eqb protocol 6 || eqb protocol 17 || eqb protocol 132
 
 -- "the index only for 50 and 51"
 abbrev pub carriesIndex : ℕ → Bool

@@ -25,7 +25,7 @@ pub fn valid_header(header: Header) -> bool
 pub(crate) fn carries_ports(protocol: u8) -> bool
     ensures { λ r. ⌜ r ≡ carriesPorts protocol ⌝ }
 {
-    (protocol == 6) | (protocol == 17)
+    (protocol == 6) | (protocol == 17) | (protocol == 132)
 }
 
 pub(crate) fn carries_index(protocol: u8) -> bool
