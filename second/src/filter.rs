@@ -143,8 +143,13 @@ impl Header {
     }
 }
 
+pub const TCP: u8 = 6;
+pub const UDP: u8 = 17;
+pub const SCTP: u8 = 132;
+
+/// The one place that says which protocols have ports: fit, cause 44, the writer, the table's test and the routes all ask here.
 fn ports_count(protocol: u8) -> bool {
-    protocol == 6 || protocol == 17
+    matches!(protocol, TCP | UDP | SCTP)
 }
 
 fn index_counts(protocol: u8) -> bool {
@@ -391,6 +396,7 @@ mod tests {
             Component::Remote4 { address: [192, 0, 2, 1], mask: [255, 255, 255, 0] },
             Component::Remote6 { address: [7; 16], mask: [0xF0; 16] },
             Component::Protocol(6),
+            Component::Protocol(132),
             Component::Protocol(51),
             Component::Protocol(1),
             Component::LocalPort(80),
