@@ -312,6 +312,10 @@ impl Filter {
         self.holds(Type::RemotePort) || self.holds(Type::RemoteRange)
     }
 
+    pub fn holds_ports(&self) -> bool {
+        self.holds_local() || self.holds_remote()
+    }
+
     fn index_agrees(&self, header: &Header) -> bool {
         !self.holds(Type::Index) || (index_counts(header.protocol) && self.index == header.index)
     }
@@ -337,7 +341,7 @@ impl Filter {
     }
 
     fn some_protocol_agrees(&self) -> bool {
-        let ports = self.holds_local() || self.holds_remote();
+        let ports = self.holds_ports();
         let index = self.holds(Type::Index);
         if self.holds(Type::Protocol) {
             (!ports || ports_count(self.protocol)) && (!index || index_counts(self.protocol))

@@ -2,13 +2,18 @@
 
 use std::iter::{once, repeat};
 
+use crate::element::filters_in;
+use crate::filter::{Header, Type, SCTP};
 use crate::lines::{Line, LONGEST_LINE};
 use crate::portions::Unsound;
+use crate::route::least_that_fits;
+use crate::script::{asked, Asked, Call};
 use crate::session::Session;
+use crate::table::Table;
 use crate::text::Text;
 
 /// Every form that the bench language has, numbers and lists left out but for those that are the point of the reply.
-pub const FORMS: [&str; 122] = [
+pub const FORMS: [&str; 131] = [
     "accept",
     "accept follow-up",
     "reject 41",
@@ -131,6 +136,15 @@ pub const FORMS: [&str; 122] = [
     "dedicated fed: refused 1",
     "fed: conflict",
     "fed: bad line",
+    "filter SCTP ports",
+    "  filter SCTP local",
+    "  filter SCTP remote",
+    "  filter SCTP local remote",
+    "route of SCTP: bearer by SCTP ports",
+    "route of SCTP: bearer by ports alone",
+    "route of SCTP: bearer by no ports",
+    "route of SCTP: bearer by no filter",
+    "route of SCTP: discard",
 ];
 
 /// The lines whose replies are counted apart, since others give some of the same.
@@ -153,18 +167,74 @@ const TAKE_FED: [&str; 4] = ["element", "rewrite", "modify", "dedicated"];
 
 const LEAST: usize = 10;
 
-/// A line of output that is a reply or part of one, the word of the line that it replies to, and what was wrong with the state of
-/// portions when it came. Of a reply of many lines the first alone has a word: filters read the same whatever line they are for.
+/// A line of output that is a reply or part of one, the word of the line that it replies to, and what stood when it came. Of a reply of
+/// many lines the first alone has a word: filters read the same whatever line they are for.
 #[derive(Clone, PartialEq, Eq, Debug)]
 pub struct Reply {
     word: String,
-    unsound: Option<Unsound>,
+    standing: Standing,
     line: String,
+}
+
+/// What tells replies apart that read the same: what is wrong with the state of portions, and what decides the route of an SCTP packet.
+#[derive(Clone, Copy, PartialEq, Eq, Debug)]
+struct Standing {
+    unsound: Option<Unsound>,
+    sctp: Option<Decider>,
+}
+
+/// The kind of filter that decides a route.
+#[derive(Clone, Copy, PartialEq, Eq, Debug)]
+enum Decider {
+    SctpPorts,
+    PortsAlone,
+    NoPorts,
+    NoFilter,
+}
+
+impl Standing {
+    fn before(session: &Session, line: &[u8]) -> Standing {
+        let sctp = match asked(line) {
+            Asked::Call { call: Call::Route { default, header }, .. } if header.protocol == SCTP => {
+                Some(Decider::of(&session.table, default, &header))
+            }
+            _ => None,
+        };
+        Standing { unsound: session.portions.unsound(), sctp }
+    }
+}
+
+impl Decider {
+    fn of(table: &Table, default: u8, header: &Header) -> Decider {
+        let filter = least_that_fits(table, default, header).and_then(|(precedence, bearer)| {
+            let (_, filter) =
+                filters_in(&table.bearer(bearer)?.row).find(|(_, f)| f.precedence == precedence)?;
+            Some(filter)
+        });
+        match filter {
+            None => Decider::NoFilter,
+            Some(filter) if !filter.holds_ports() => Decider::NoPorts,
+            Some(filter) if filter.holds(Type::Protocol) => Decider::SctpPorts,
+            Some(_) => Decider::PortsAlone,
+        }
+    }
+
+    fn name(self) -> &'static str {
+        match self {
+            Decider::SctpPorts => "SCTP ports",
+            Decider::PortsAlone => "ports alone",
+            Decider::NoPorts => "no ports",
+            Decider::NoFilter => "no filter",
+        }
+    }
 }
 
 impl Reply {
     fn form(&self) -> String {
         let form = form(&self.line);
+        if let Some(decider) = self.standing.sctp {
+            return sctp_route_form(&form, decider);
+        }
         if !COUNTED_APART.contains(&self.word.as_str()) {
             return form;
         }
@@ -180,7 +250,7 @@ impl Reply {
 
     /// The number is one for all three.
     fn why_13(&self) -> &'static str {
-        match self.unsound {
+        match self.standing.unsound {
             None => "past what was announced",
             Some(Unsound::MoreFedThanAnnounced) => "more fed than announced",
             Some(Unsound::OctetPastFed) => "an octet past what was fed",
@@ -214,6 +284,15 @@ fn outcome(form: &str) -> &str {
     }
 }
 
+/// Refusals are for the table, the default or the version, and so are counted with those of other packets.
+fn sctp_route_form(form: &str, decider: Decider) -> String {
+    match form {
+        "bearer" => format!("route of SCTP: bearer by {}", decider.name()),
+        "discard" => "route of SCTP: discard".to_string(),
+        _ => form.to_string(),
+    }
+}
+
 /// The form of a line of output, or the line itself where it has none.
 fn form(line: &str) -> String {
     let words: Vec<&str> = line.split(' ').collect();
@@ -227,10 +306,11 @@ fn form(line: &str) -> String {
         ["reject", _, cause] => format!("reject {cause}"),
         ["bearer", _, role, .., "transaction", _] => format!("bearer {role}"),
         ["delete-filters", _, ..] => "delete-filters".to_string(),
-        ["filter", _, "precedence", _, "direction", ..] => "filter".to_string(),
-        ["", "", "filter", _, "precedence", _, "direction", _, ..] => {
-            filter_form(words.get(8).unwrap_or(&""))
-        }
+        ["filter", _, "precedence", _, "direction", _, components @ ..] => match sctp_ports(components) {
+            Some(_) => "filter SCTP ports".to_string(),
+            None => "filter".to_string(),
+        },
+        ["", "", "filter", _, "precedence", _, "direction", _, components @ ..] => filter_form(components),
         ["bad", "line", _] => "bad line".to_string(),
         ["synchronised", _] => "synchronised E".to_string(),
         ["synchronised", _, _, ..] => "synchronised E..".to_string(),
@@ -239,14 +319,30 @@ fn form(line: &str) -> String {
     }
 }
 
-fn filter_form(first_component: &str) -> String {
-    let name = match first_component {
-        "remote4" | "remote6" | "protocol" => first_component,
-        "local-port" | "local-range" => "local",
-        "remote-port" | "remote-range" => "remote",
-        _ => "other",
+/// By the first component, but for SCTP with ports, whatever stands before.
+fn filter_form(components: &[&str]) -> String {
+    let first = components.first().copied().unwrap_or_default();
+    let name = match (sctp_ports(components), first) {
+        (Some(ports), _) => ports,
+        (None, "remote4" | "remote6" | "protocol") => first,
+        (None, "local-port" | "local-range") => "local",
+        (None, "remote-port" | "remote-range") => "remote",
+        (None, _) => "other",
     };
     format!("  filter {name}")
+}
+
+/// Which ports stand beside SCTP, if any do.
+fn sctp_ports(components: &[&str]) -> Option<&'static str> {
+    let has = |name: &str| components.contains(&name);
+    let sctp = components.windows(2).any(|words| words == ["protocol", "132"]);
+    match (has("local-port") || has("local-range"), has("remote-port") || has("remote-range")) {
+        _ if !sctp => None,
+        (true, true) => Some("SCTP local remote"),
+        (true, false) => Some("SCTP local"),
+        (false, true) => Some("SCTP remote"),
+        (false, false) => None,
+    }
 }
 
 /// Every list that is not empty is an E.
@@ -263,17 +359,17 @@ pub fn played(mut script: &[u8]) -> (Text, Vec<Reply>) {
     let (mut output, mut replies) = (Text::new(), Vec::new());
     while line.next(&mut script).expect("a slice is read") {
         session.write_echo(&line.octets, line.is_too_long(), &mut output);
-        let (start, unsound) = (output.len(), session.portions.unsound());
+        let (start, standing) = (output.len(), Standing::before(&session, &line.octets));
         session.do_line(line.number, &line.octets, line.is_too_long(), &mut output);
-        replies.extend(replies_in(&output[start..], &line.octets, unsound));
+        replies.extend(replies_in(&output[start..], &line.octets, standing));
     }
     (output, replies)
 }
 
-fn replies_in(output: &[u8], asked: &[u8], unsound: Option<Unsound>) -> Vec<Reply> {
+fn replies_in(output: &[u8], asked: &[u8], standing: Standing) -> Vec<Reply> {
     let lines = String::from_utf8_lossy(output);
     let words = once(word(asked)).chain(repeat(String::new()));
-    lines.lines().zip(words).map(|(line, word)| Reply { word, unsound, line: line.to_string() }).collect()
+    lines.lines().zip(words).map(|(line, word)| Reply { word, standing, line: line.to_string() }).collect()
 }
 
 /// How often each form stands in replies, and what is wrong: lines of no form, and forms too rare.
@@ -356,6 +452,37 @@ mod tests {
         assert_eq!(fed("repeat 2 dedicated 6 5 0 fed"), ["dedicated fed: reject for the table"]);
         assert_eq!(fed("rewrite fed 8\nrewrite fed"), ["rewrite fed: refused 9", "fed: bad line"]);
         assert_eq!(fed("element Fed\nportion fed"), ["bad line", "portion: bad line"]);
+    }
+
+    #[test]
+    fn filters_of_sctp_with_ports_are_told_apart() {
+        let show = |components: &str| forms(&format!("place 5 0 0 0 {components}\nshow\n"))[2].clone();
+        assert_eq!(show("30 84"), "  filter protocol");
+        assert_eq!(show("30 84 50 0084"), "  filter SCTP remote");
+        assert_eq!(show("30 84 41 00010002 10 0102030400000000"), "  filter SCTP local");
+        assert_eq!(show("51 00010002 40 0000 30 84"), "  filter SCTP local remote");
+        assert_eq!(show("30 83 50 0084"), "  filter protocol");
+        assert_eq!(show("40 0084"), "  filter local");
+        let composed =
+            forms("compose create\nfilter 1 1 1 30 84\nfilter 132 1 1\nfilter 1 1 1 30 84 40 0000\n");
+        assert_eq!(composed[1..], ["filter", "bad line", "filter SCTP ports"]);
+    }
+
+    #[test]
+    fn routes_of_sctp_are_told_apart_by_what_decides() {
+        let routed = |filters: &str| {
+            let table = format!("default 5\ndedicated 6 5 0 {filters}\n");
+            let route = "route 5 4 1.2.3.4 132 7 9 0 0 0\nrepeat 2 route 5 6 1.2.3.4 6 7 9 0 0 0\n";
+            forms(&format!("{table}{route}"))[2..].to_vec()
+        };
+        assert_eq!(routed("213100053084500009"), ["route of SCTP: bearer by SCTP ports", "bearer"]);
+        assert_eq!(routed("213100053084500008"), ["route of SCTP: bearer by no filter", "bearer"]);
+        assert_eq!(routed("21310003400007"), ["route of SCTP: bearer by ports alone", "bearer"]);
+        assert_eq!(routed("213100023084"), ["route of SCTP: bearer by no ports", "bearer"]);
+        let discarded = "default 5\nmodify 5 0 213100023011\nrepeat 3  route 5 4 1.2.3.4 132 7 9 0 0 0\n";
+        assert_eq!(forms(discarded)[2..], ["route of SCTP: discard"]);
+        let refused = "default 5\nroute 5 5 1.2.3.4 132 7 9 0 0 0\nroute 6 4 1.2.3.4 132 7 9 0 0 0\n";
+        assert_eq!(forms(refused)[1..], ["refused 2", "refused 8"]);
     }
 
     #[test]

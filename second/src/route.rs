@@ -26,7 +26,7 @@ pub fn route(table: &Table, default: u8, header: &Header) -> Route {
         return Route::Refused(NOT_A_HEADER);
     }
     match least_that_fits(table, default, header) {
-        Some(bearer) => Route::Bearer(bearer),
+        Some((_, bearer)) => Route::Bearer(bearer),
         None if has_uplink_filter(table, default) => Route::Discard,
         None => Route::Bearer(default),
     }
@@ -40,11 +40,10 @@ fn has_uplink_filter(table: &Table, default: u8) -> bool {
     table.bearer(default).is_some_and(|bearer| bearer.row.iter().any(is_uplink_filter))
 }
 
-/// Of the connection's uplink filters that fit, the bearer of the one with the least precedence.
-fn least_that_fits(table: &Table, default: u8, header: &Header) -> Option<u8> {
+/// Of the connection's uplink filters that fit, the precedence and the bearer of the one with the least.
+pub fn least_that_fits(table: &Table, default: u8, header: &Header) -> Option<(u8, u8)> {
     let connection = table.numbered().filter(|(i, b)| in_connection(default, *i, b.role));
-    let least = connection.filter_map(|(i, b)| Some((least_of_row(&b.row, header)?, i))).min();
-    least.map(|(_, bearer)| bearer)
+    connection.filter_map(|(i, b)| Some((least_of_row(&b.row, header)?, i))).min()
 }
 
 fn least_of_row(row: &Row, header: &Header) -> Option<u8> {

@@ -1,8 +1,8 @@
 //! Elements: sound ones, ones that are almost so, and ones that were damaged on the way.
 
-use super::Generator;
+use super::{ports, Generator};
 use crate::element::{filters_in, Kind, LARGEST_COUNT};
-use crate::filter::{Component, Filter, LARGEST_LABEL};
+use crate::filter::{Component, Filter, LARGEST_LABEL, SCTP};
 use crate::random::Random;
 use crate::table::{connection_of, Role};
 
@@ -44,7 +44,7 @@ fn contents(components: &[Component]) -> Vec<u8> {
     components.iter().flat_map(|c| [vec![c.kind().octet()], value(c)].concat()).collect()
 }
 
-fn port(random: &mut Random) -> u16 {
+pub fn port(random: &mut Random) -> u16 {
     let any = random.number() as u16;
     random.pick(&[0, 1, 53, 80, 443, 443, 5060, 5060, 5061, 65534, 65535, any])
 }
@@ -70,12 +70,12 @@ fn mask(random: &mut Random, octets: usize) -> Vec<u8> {
     (0..octets).map(octet).collect()
 }
 
-fn remote4(random: &mut Random) -> Component {
+pub fn remote4(random: &mut Random) -> Component {
     let address = random.pick(&[[192, 0, 2, 1], [192, 0, 2, 77], [198, 51, 100, 9], [0; 4], [255; 4]]);
     Component::Remote4 { address, mask: mask(random, 4).try_into().unwrap() }
 }
 
-fn remote6(random: &mut Random) -> Component {
+pub fn remote6(random: &mut Random) -> Component {
     let mut address = [0x20, 1, 0x0D, 0xB8, 0, 0, 0, 0, 0, 0, 0, 0, 0, 0, 0, random.below(3) as u8];
     address[random.below(16)] ^= random.pick(&[0, 0, 1, 0x80]);
     Component::Remote6 { address, mask: mask(random, 16).try_into().unwrap() }
@@ -88,11 +88,12 @@ fn label(random: &mut Random) -> u32 {
 
 fn any_component(random: &mut Random) -> Component {
     let any = random.number();
-    let (low, high) = range(random);
+    let (near_sctp, (low, high)) = (ports::near_sctp(random), range(random));
+    let protocols = [6, 17, 6, 17, 50, 51, 1, 0, 255, SCTP, SCTP, near_sctp, any as u8];
     match random.below(11) {
         0 | 1 => remote4(random),
         2 => remote6(random),
-        3 | 4 => Component::Protocol(random.pick(&[6, 17, 6, 17, 50, 51, 1, 0, 255, any as u8])),
+        3 | 4 => Component::Protocol(random.pick(&protocols)),
         5 => Component::LocalPort(port(random)),
         6 => Component::LocalRange { low, high },
         7 => Component::RemotePort(port(random)),
@@ -112,6 +113,9 @@ pub fn any_components(random: &mut Random) -> Vec<Component> {
 
 /// Components of a filter that is well coded and fits some packet, in any order.
 pub fn sound_components(random: &mut Random) -> Vec<Component> {
+    if random.one_in(6) {
+        return ports::fit_ports(random);
+    }
     loop {
         let tried: Vec<Component> = (0..1 + random.below(4)).map(|_| any_component(random)).collect();
         let filter = tried.iter().fold(Filter::default(), |filter, c| filter.with(c));
@@ -124,7 +128,10 @@ pub fn sound_components(random: &mut Random) -> Vec<Component> {
 }
 
 /// Well coded, and no packet fits.
-fn unfit_components(random: &mut Random) -> Vec<Component> {
+pub fn unfit_components(random: &mut Random) -> Vec<Component> {
+    if random.one_in(2) {
+        return ports::unfit_ports(random);
+    }
     let (here, there) = (port(random), port(random));
     let (low, high) = (here.min(there), here.max(there));
     match random.below(5) {

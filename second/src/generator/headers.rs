@@ -1,8 +1,9 @@
 //! Headers that fit a filter, or miss it by little.
 
 use super::elements::hex;
+use super::ports;
 use super::rubbish::bad_address;
-use crate::filter::{Component, Filter, Header};
+use crate::filter::{Component, Filter, Header, SCTP};
 use crate::random::Random;
 
 pub fn words(random: &mut Random, header: &Header) -> String {
@@ -57,7 +58,7 @@ fn any_header(random: &mut Random) -> Header {
     Header {
         version: random.pick(&[4, 4, 4, 6, 6]),
         address: std::array::from_fn(|_| random.octet()),
-        protocol: random.pick(&[6, 17, 6, 17, 50, 51, 1]),
+        protocol: ports::protocol(random),
         local_port: random.pick(&[0, 80, 443, 65535, any as u16]),
         remote_port: random.pick(&[0, 53, 443, 5060, 5061, any as u16]),
         index: random.pick(&[0, 1, 77, u32::MAX]),
@@ -95,10 +96,11 @@ fn agree(random: &mut Random, header: &mut Header, component: &Component) {
 }
 
 fn disturb(random: &mut Random, header: &mut Header) {
+    let (near_sctp, any) = (ports::near_sctp(random), random.octet());
     match random.below(9) {
         0 => header.version = random.pick(&[4, 6, 5, 0, 255]),
         1 | 2 => header.address[random.below(16)] ^= 1 << random.below(8),
-        3 => header.protocol = random.octet(),
+        3 => header.protocol = random.pick(&[SCTP, near_sctp, any, any]),
         4 => header.local_port = header.local_port.wrapping_add(random.pick(&[1, 65535])),
         5 => header.remote_port = header.remote_port.wrapping_add(random.pick(&[1, 65535])),
         6 => header.index = header.index.wrapping_add(1),

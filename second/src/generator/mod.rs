@@ -4,6 +4,7 @@ mod echo;
 mod elements;
 mod headers;
 mod portions;
+mod ports;
 mod rubbish;
 mod status;
 
@@ -351,9 +352,11 @@ impl Generator {
     /// Precedence, direction and components, mostly of a sound filter.
     fn filter_words(&mut self, precedence: u8) -> String {
         let direction = if self.random.one_in(25) { self.random.octet() } else { self.random.below(4) as u8 };
-        let components = match self.random.below(20) {
-            0 => Vec::new(),
-            1 | 2 => elements::any_components(&mut self.random),
+        let components = match self.random.below(40) {
+            0 | 1 => Vec::new(),
+            2..=5 => elements::any_components(&mut self.random),
+            6 => elements::unfit_components(&mut self.random),
+            7 => ports::unfit_ports(&mut self.random),
             _ => elements::sound_components(&mut self.random),
         };
         format!("{precedence} {direction} {}", component_words(&components)).trim_end().to_string()
@@ -434,8 +437,19 @@ impl Generator {
         let active = self.bearers(|role| role != Role::Idle);
         let bearer = if self.random.one_in(4) { bearer } else { self.random.any(&active).unwrap_or(bearer) };
         let (place, precedence) = (self.random.below(16), self.precedence());
-        let words = self.filter_words(precedence);
+        let words =
+            if self.random.one_in(2) { self.ported_filter_words() } else { self.filter_words(precedence) };
         self.say(&format!("place {bearer} {place} {words}"));
+    }
+
+    /// Of a filter with ports that spoils a table, if at all, by its ports, as no other is likely to have its precedence.
+    fn ported_filter_words(&mut self) -> String {
+        let components = if self.random.one_in(2) {
+            ports::unfit_ports(&mut self.random)
+        } else {
+            ports::fit_ports(&mut self.random)
+        };
+        format!("{} {} {}", self.random.octet(), self.random.below(4), component_words(&components))
     }
 
     fn put_back(&mut self, before: &Table) {

@@ -155,7 +155,7 @@ impl Generator {
 
     fn feed(&mut self, octets: &[u8]) {
         let divisions = [Division::Whole, Division::InTwo, Division::InSome, Division::OctetByOctet];
-        let division = divisions[self.random.weighted(&[8, 9, 5, 2])];
+        let division = divisions[self.random.weighted(&[8, 9, 5, 3])];
         for portions in 0..MOST_PORTIONS {
             self.between(octets);
             let left = self.left(octets);
@@ -243,7 +243,7 @@ impl Generator {
     }
 
     fn use_fed(&mut self) {
-        match self.random.weighted(&[6, 4, 5]) {
+        match self.random.weighted(&[6, 4, 7]) {
             0 => self.use_fed_on_table(),
             1 => self.say("element fed"),
             _ => {

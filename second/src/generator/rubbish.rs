@@ -6,6 +6,7 @@ use crate::random::Random;
 const LINES: &[&str] = &[
     "default 5",
     "dedicated 6 5 0 21310A0530115013C4",
+    "dedicated 6 5 0 21310A0530845013C4",
     "modify 5 0 C0",
     "deactivate 5 0",
     "start 1 5",
@@ -33,6 +34,7 @@ const LINES: &[&str] = &[
     "place 4 0 0 0",
     "emit 513",
     "route 5 4 192.0.2.1 17 1000 5060 0 0 0",
+    "route 5 4 192.0.2.1 132 1000 5060 0 0 0",
     "route 5 6 032.001.13.184 17 1000 5060 0 0 0",
     "element 192.0.2.1",
     "rewrite 192.0.2.1 20",
