@@ -23,12 +23,16 @@ use Rattle.filter.specs.Coding.{wellCoded, emptyPlace}
 use Rattle.filter.specs.Fit.{validHeader, fits}
 use Rattle.filter.specs.Ranges.{HeaderInRange}
 
--- ---- "fits some packet": there is a valid header, every number in its type's range, that the filter fits
-pub record SomePacketFits (f : Filter) : Type 0 where
+-- ---- "fits some packet": there is a valid header, every number in its type's range, that the filter fits. It is said of any
+-- test of fit, so that it can be said of fit as it was (Before)
+pub record SomePacketFitsBy (test : Filter → Header → Bool) (f : Filter) : Type 0 where
   pub header : Header
   pub inRange : HeaderInRange header
   pub valid : validHeader header ≡ true
-  pub agrees : fits f header ≡ true
+  pub agrees : test f header ≡ true
+
+abbrev pub SomePacketFits : Filter → Type 0
+SomePacketFits f = SomePacketFitsBy fits f
 
 -- ---- The packet that a filter describes: each component's own value, of a range the low end; a version and a protocol that the components
 -- leave open are ones for which the others count.

@@ -3,3 +3,4 @@ pub mod Cells
 pub mod Firsts
 pub mod Noting
 pub mod Theorems
+pub mod Rules

@@ -1,9 +1,10 @@
 -- The rule of document 01, over all filters of a connection in no order: "of the connection's uplink filters that fit, the one with the least
 -- precedence gives its bearer. None fits: the default bearer if it has no uplink filter, else discard."
 use Prim.Native.Nat.{ℕ, _<_, _≤_}
-use mathlib.Core.Bool.{true}
+use mathlib.Core.Bool.{Bool, true}
 use mathlib.Core.Path.{_≡_}
 use mathlib.Core.Logic.{_↔_}
+use Rattle.filter.specs.declared.component.Filter.{Filter}
 use Rattle.filter.specs.declared.packet.Header.{Header}
 use Rattle.filter.specs.Fit.{validHeader, fits}
 use Rattle.table.specs.declared.bearer.Table.{Table}
@@ -15,29 +16,34 @@ use Rattle.route.specs.declared.answer.Route.the-variants.{Bearer, Disca
 use Rattle.route.specs.Lists.{isUplink, precedenceAt}
 use Rattle.route.specs.Positions.{Uplink}
 
-module _ (t : Table) where
+-- an uplink filter of the default bearer itself
+abbrev pub OwnUplink : Table → ℕ → ℕ → Type 0
+OwnUplink t default j = (j < placeCount) × (isUplink (filterAt t (indexOf default) j) ≡ true)
+
+-- the rule, where a test of fit says what fits; document 01's is `fits`
+module _ (test : Filter → Header → Bool) (t : Table) where
   -- an uplink filter of the default's connection that fits the header
-  pub record Fitting (default : ℕ) (h : Header) (i j : ℕ) : Type 0 where
+  pub record FittingBy (default : ℕ) (h : Header) (i j : ℕ) : Type 0 where
     pub uplink : Uplink t default i j
-    pub fit : fits (filterAt t i j) h ≡ true
+    pub fit : test (filterAt t i j) h ≡ true
 
   -- .. and none that fits has a lesser precedence
-  pub record Least (default : ℕ) (h : Header) (i j : ℕ) : Type 0 where
-    pub fitting : Fitting default h i j
-    pub least : (k l : ℕ) → Fitting default h k l → precedenceAt t i j ≤ precedenceAt t k l
+  pub record LeastBy (default : ℕ) (h : Header) (i j : ℕ) : Type 0 where
+    pub fitting : FittingBy default h i j
+    pub least : (k l : ℕ) → FittingBy default h k l → precedenceAt t i j ≤ precedenceAt t k l
 
-  abbrev pub NoneFits : ℕ → Header → Type 0
-  NoneFits default h = (i j : ℕ) → Fitting default h i j → ⊥
-
-  -- an uplink filter of the default bearer itself
-  abbrev pub OwnUplink : ℕ → ℕ → Type 0
-  OwnUplink default j = (j < placeCount) × (isUplink (filterAt t (indexOf default) j) ≡ true)
+  abbrev pub NoneFitsBy : ℕ → Header → Type 0
+  NoneFitsBy default h = (i j : ℕ) → FittingBy default h i j → ⊥
 
   -- r is a right route of the header on the default's connection
-  pub data Right (default : ℕ) (h : Header) (r : Route) : Type 0 where
-    byFilter : (i j : ℕ) → Least default h i j → r ≡ Bearer (identityOf i) → Right default h r
-    byDefault : NoneFits default h → ((j : ℕ) → OwnUplink default j → ⊥) → r ≡ Bearer default → Right default h r
-    discarded : NoneFits default h → (j : ℕ) → OwnUplink default j → r ≡ Discard → Right default h r
+  pub data RightBy (default : ℕ) (h : Header) (r : Route) : Type 0 where
+    byFilter : (i j : ℕ) → LeastBy default h i j → r ≡ Bearer (identityOf i) → RightBy default h r
+    byDefault : NoneFitsBy default h → ((j : ℕ) → OwnUplink t default j → ⊥) → r ≡ Bearer default → RightBy default h r
+    discarded : NoneFitsBy default h → (j : ℕ) → OwnUplink t default j → r ≡ Discard → RightBy default h r
+
+-- the right routes
+abbrev pub Right : Table → ℕ → Header → Route → Type 0
+Right t default h r = RightBy fits t default h r
 
 -- ---- "Route: 1, 8, 2.": each number is given exactly where its test refuses, and none before it
 pub record RouteNumbered (t : Table) (default : ℕ) (h : Header) (number : ℕ) : Type 0 where

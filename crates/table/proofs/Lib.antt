@@ -3,3 +3,4 @@ pub mod Meaning
 pub mod Typed
 pub mod Walks
 pub mod Within
+pub mod Rules

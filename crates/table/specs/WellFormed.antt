@@ -9,8 +9,10 @@ use Rattle.laws.specs.Says.{pick}
 use Rattle.laws.specs.Index.{imp, allBelow, joined}
 use Rattle.laws.specs.Lists.{repeats}
 use Rattle.filter.specs.declared.component.Filter.{Filter}
+use Rattle.filter.specs.declared.packet.Header.{Header}
 use Rattle.filter.specs.Coding.{held, wellCoded, emptyPlace}
-use Rattle.filter.specs.Fittable.{placeFine, SomePacketFits}
+use Rattle.filter.specs.Fit.{fits}
+use Rattle.filter.specs.Fittable.{placeFine, SomePacketFitsBy}
 use Rattle.table.specs.declared.bearer.Role.{Role}
 use Rattle.table.specs.declared.bearer.Role.the-variants.{Idle, Default, Dedicated}
 use Rattle.table.specs.declared.bearer.Table.{Table}
@@ -75,7 +77,7 @@ distinctPrecedences t = allBelow (distinctAt t) bearerCount
 unfoldable pub wellFormed : Table → Bool
 wellFormed t = allBelow (bearerFine t) bearerCount && distinctTransactions t && distinctPrecedences t
 
--- ---- What the test says: the theorem `well-says`
+-- ---- What `wellFormed` says
 abbrev pub Held : Filter → Type 0
 Held f = held f ≡ true
 
@@ -83,7 +85,8 @@ Held f = held f ≡ true
 abbrev pub ActiveDefault : (ℕ → Role) → ℕ → Type 0
 ActiveDefault role identity = (firstIdentity ≤ identity) × (identity ≤ lastIdentity) × (role (indexOf identity) ≡ Default)
 
-pub record Well (v : View) : Type 0 where
+-- well formed, where a test of fit says what fits; the table's is `fits`
+pub record WellBy (test : Filter → Header → Bool) (v : View) : Type 0 where
   -- an idle bearer has no transaction and holds nothing
   pub silent : (i : ℕ) → i < bearerCount → v .role i ≡ Idle → v .transaction i ≡ 0
   pub empty : (i j : ℕ) → i < bearerCount → j < placeCount → v .role i ≡ Idle → v .filter i j ≡ emptyFilter
@@ -95,11 +98,15 @@ pub record Well (v : View) : Type 0 where
   -- a place that holds no filter is all zero; a filter is well coded, and there is a packet that fits it
   pub zeroed : (i j : ℕ) → i < bearerCount → j < placeCount → (Held (v .filter i j) → ⊥) → v .filter i j ≡ emptyFilter
   pub coded : (i j : ℕ) → i < bearerCount → j < placeCount → Held (v .filter i j) → wellCoded (v .filter i j) ≡ true
-  pub fitted : (i j : ℕ) → i < bearerCount → j < placeCount → Held (v .filter i j) → SomePacketFits (v .filter i j)
+  pub fitted : (i j : ℕ) → i < bearerCount → j < placeCount → Held (v .filter i j) → SomePacketFitsBy test (v .filter i j)
   -- two filters of one connection with one precedence are the same
   pub distinct : (i k j l : ℕ) → i < bearerCount → k < bearerCount → j < placeCount → l < placeCount
       → connectionOf i (v .role i) ≡ connectionOf k (v .role k) → Held (v .filter i j) → Held (v .filter k l)
       → v .filter i j .precedence ≡ v .filter k l .precedence → (i ≡ k) × (j ≡ l)
+
+-- `wellFormed` is true exactly of these: the theorem `well-says`
+abbrev pub Well : View → Type 0
+Well v = WellBy fits v
 
 abbrev pub WellFormed : Table → Type 0
 WellFormed t = Well (view t)
