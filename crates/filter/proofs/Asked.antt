@@ -9,50 +9,18 @@ use Rattle.filter.specs.declared.component.Filter.{Filter}
 use Rattle.filter.specs.declared.packet.Header.{Header}
 use Rattle.filter.specs.Component.{typeOfIndex, present}
 use Rattle.filter.specs.Coding.{held, labelFits, wellCoded, emptyPlace, largestDirection}
-use Rattle.filter.specs.Fit.{validHeader, agreesAddress, agreesProtocol, agreesPort, agreesIndex, agreesClass, agreesLabel, agreesTransport, agreesNetwork, fits}
+use Rattle.filter.specs.Fit.{carriesPorts, validHeader, fits}
 use Rattle.filter.specs.Fittable.{sampleProtocol, sample, fittable, placeFine}
 use Rattle.filter.specs.inner.Asked.{somePort, inOrder, someVersion, asked}
+use Rattle.filter.proofs.Rules.{agree, fits-all}
 use Rattle.filter.proofs.Samples.{ProtocolRight, label-fits, version-asked, version-right, protocol-asked, protocol-right, ports-there}
 use Rattle.filter.proofs.Samples.{port-wants, port-order, port-right, index-wants, index-right, class-right}
 
--- every component agrees
-pub record Agrees (f : Filter) (h : Header) : Type 0 where
-  pub protocol : agreesProtocol (f .protocol) (h .protocol) ≡ true
-  pub local : agreesPort (f .local) (h .protocol) (h .local) ≡ true
-  pub remote : agreesPort (f .remote) (h .protocol) (h .remote) ≡ true
-  pub index : agreesIndex (f .index) (h .protocol) (h .index) ≡ true
-  pub address : agreesAddress (f .address) (h .version) (h .address) ≡ true
-  pub class : agreesClass (f .class) (h .class) ≡ true
-  pub label : agreesLabel (f .label) (h .version) (h .label) ≡ true
-
-pub agree : (f : Filter) (h : Header) → fits f h ≡ true → Agrees f h
-unfolding fits agreesTransport agreesNetwork
-agree f h e =
-    let all = both _ _ e in
-    let transport = both _ _ (all .0) in
-    let ports = both _ _ (transport .0) in
-    let first = both _ _ (ports .0) in
-    let network = both _ _ (all .1) in
-    let last = both _ _ (network .0) in
-    record {
-      protocol = first .0;
-      local = first .1;
-      remote = ports .1;
-      index = transport .1;
-      address = last .0;
-      class = last .1;
-      label = network .1;
-    }
-
-pub fits-all : (f : Filter) (h : Header) → Agrees f h → fits f h ≡ true
-unfolding fits agreesTransport agreesNetwork
-fits-all f h a = rw (a .protocol, a .local, a .remote, a .index, a .address, a .class, a .label)
-
 -- ---- The answers are yes where any packet fits, and then the sample does.
 pub any-asked : (f : Filter) (h : Header) → validHeader h ≡ true → fits f h ≡ true → asked f ≡ true
-unfolding asked validHeader
+unfolding asked validHeader fits
 any-asked f h v e =
-    let a = agree f h e in
+    let a = agree carriesPorts f h e in
     let local = port-wants (f .local) (h .protocol) (h .local) (a .local) in
     let remote = port-wants (f .remote) (h .protocol) (h .remote) (a .remote) in
     rw (
@@ -63,7 +31,7 @@ any-asked f h v e =
     )
 
 pub asked-fits : (f : Filter) → asked f ≡ true → fittable f ≡ true
-unfolding asked fittable sample validHeader
+unfolding asked fittable sample validHeader fits
 asked-fits f e =
     let remote = both _ (inOrder (f .remote)) e in
     let local = both _ (inOrder (f .local)) (remote .0) in
@@ -73,7 +41,7 @@ asked-fits f e =
     let v = version-right (f .address) (f .label) (first .0) in
     let p = subst (ProtocolRight (f .protocol) ports index) (ap (λ (b : Bool). sampleProtocol (f .protocol) b index) (sym (ports-there (f .local) (f .remote)))) (protocol-right (f .protocol) ports index (first .1)) in
     rw (v .valid)
-    (fits-all f (sample f)
+    (fits-all carriesPorts f (sample f)
     (record {
       protocol = p .protocol;
       local = port-right (f .local) _ (local .1) (λ t. p .ports (or-left _ _ t));
@@ -95,10 +63,10 @@ fittable-is f =
 
 -- ---- A place: a filter that some packet fits has a label that fits, so of one that is held only the direction is left to look at.
 fittable-label : (f : Filter) → fittable f ≡ true → labelFits (f .label) ≡ true
-unfolding fittable validHeader
+unfolding fittable validHeader fits
 fittable-label f e =
     let h = both (validHeader (sample f)) (fits f (sample f)) e in
-    label-fits (f .label) (sample f .version) (sample f .label) (agree f (sample f) (h .1) .label) (h .0)
+    label-fits (f .label) (sample f .version) (sample f .label) (agree carriesPorts f (sample f) (h .1) .label) (h .0)
 
 -- what follows from the last test need not be asked
 needless : (a b c : Bool) → (c ≡ true → b ≡ true) → (a && b) && c ≡ a && c

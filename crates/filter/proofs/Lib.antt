@@ -7,3 +7,5 @@ pub mod Samples
 pub mod Theorems
 pub mod Typed
 pub mod Ranges
+pub mod Rules
+pub mod Sctp

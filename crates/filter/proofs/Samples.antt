@@ -77,7 +77,7 @@ version-right (V6 a mask) (isLabel x) e = record { address = own6 a mask; label 
 
 -- ---- the protocol: what the ports and the index ask of one, they have of that of the sample
 -- no protocol carries ports and an index
-apart : (x : ℕ) → carriesPorts x ≡ true → carriesIndex x ≡ true → ⊥
+pub apart : (x : ℕ) → carriesPorts x ≡ true → carriesIndex x ≡ true → ⊥
 apart x p i = ⊎-elim (λ e. other x 50 refl (eqb-true x 50 e) p) (λ e. other x 51 refl (eqb-true x 51 e) p) (either (eqb x 50) (eqb x 51) i)
   where
     other : (x y : ℕ) → carriesPorts y ≡ false → x ≡ y → carriesPorts x ≡ true → ⊥

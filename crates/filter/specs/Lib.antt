@@ -6,4 +6,5 @@ pub mod Holding
 pub mod Fit
 pub mod Ranges
 pub mod Fittable
+pub mod Before
 pub mod inner
