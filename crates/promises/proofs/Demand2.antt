@@ -2,9 +2,9 @@
 -- and read again is the same; cause 44 exactly when some well-coded filter fits no packet.
 -- That a function's outcome is its definition's is the function's contract; crates/*/specs has the definitions, under the sentences that they write down.
 -- Assumes nothing.
-use mathlib.Core.Path.{_≡_}
-use mathlib.Core.Logic.{_⊎_, _↔_}
-use mathlib.Core.Bool.{true}
+use mathlib.Core.Path.{_≡_, sym}
+use mathlib.Core.Logic.{_⊎_, ⊎-elim, _↔_}
+use mathlib.Core.Bool.{Bool, true, false}
 use mathlib.Core.List.{List, [], _∷_, _++_, map, flatten}
 use Prim.Native.Nat.{ℕ, _<_, _≤_}
 use lib.ListN.{length, take, drop}
@@ -12,9 +12,15 @@ use Rattle.laws.specs.Says.{Says}
 use Rattle.laws.specs.Lists.{All}
 use Rattle.filter.specs.declared.component.Filter.{Filter}
 use Rattle.filter.specs.declared.packet.Header.{Header}
+use Rattle.filter.specs.declared.component.Protocol.the-variants.{Absent as noProtocol, Is as isProtocol}
+use Rattle.filter.specs.Sizes.{placeCount}
+use Rattle.filter.specs.Fit.{validHeader, fits, fitsBy}
 use Rattle.filter.specs.Fittable.{fittable, SomePacketFits}
 use Rattle.filter.specs.Ranges.{FilterInRange}
+use Rattle.filter.specs.Before.{tcp, sctp, tcpOrUdp, fitsBefore, SomePacketFitted, NoPort, PortNoProtocol, PortOfSctp, naming, ofProtocol, FitsSctpToo}
 use Rattle.filter.proofs.Theorems.{fittable-says}
+use Rattle.filter.proofs.Rules.{fits-same}
+use Rattle.filter.proofs.Sctp.{sctp-named, sctp-alike, other-packets, fits-still, other-filters, portless-packets, port-before, sctp-too, sctp-held, still-fitted, sctp-unfitted, fitted-now}
 use Rattle.element.specs.declared.answer.Element.{Element}
 use Rattle.element.specs.declared.write.Written.the-variants.{Wrote}
 use Rattle.element.specs.Head.{longest}
@@ -34,8 +40,10 @@ use Rattle.element.proofs.Divided.{announce-gives, feed-gives, finish-gives}
 use Rattle.element.proofs.Theorems.{reader-42, reader-44, reader-45, writer-10, writer-11, writer-9, written-reads, writer-order}
 use Rattle.table.specs.declared.bearer.Table.{Table}
 use Rattle.table.specs.Ranges.{TableInRange}
-use Rattle.table.specs.WellFormed.{wellFormed, WellFormed}
+use Rattle.table.specs.Bearers.{bearerCount, filterAt, view, isDefault, roleOf}
+use Rattle.table.specs.WellFormed.{wellFormed, WellFormed, WellBy}
 use Rattle.table.proofs.Meaning.{well-says}
+use Rattle.table.proofs.Rules.{well-more}
 use Rattle.calls.specs.declared.reply.Answer.the-variants.{Accept}
 use Rattle.calls.specs.Changes.{FollowUpList, Releases, NamedBearer}
 use Rattle.calls.specs.Reply.{numberOf}
@@ -54,8 +62,11 @@ use Rattle.status.proofs.Examples.{Examples, examples}
 use Rattle.promises.specs.Messages.{Message, modifies, activates, bearerNamed, transactionOf, valueOf, handled, numberGiven, Passes, MessageNumbered, CallNumbered, connectionFor, roleFor}
 use Rattle.promises.specs.Calls.{Call, activateDefault, activateDedicated, modify, deactivate, reject, start, synchronise, outcomeOf}
 use Rattle.route.specs.Routes.{numberOf as routeNumber, routeOf}
-use Rattle.route.specs.Rule.{RouteNumbered}
-use Rattle.route.proofs.Theorems.{route-numbers}
+use Rattle.route.specs.declared.answer.Route.{Route}
+use Rattle.route.specs.declared.answer.Answer.the-variants.{Routed}
+use Rattle.route.specs.Rule.{FittingBy, Right, RightBy, RouteNumbered}
+use Rattle.route.proofs.Theorems.{route-numbers, route-says}
+use Rattle.route.proofs.Rules.{right-same}
 
 -- "Any other table is refused": the test is true exactly for the well-formed tables, said as a type
 pub well-formed-tables : (t : Table) → TableInRange t → Says (wellFormed t) (WellFormed t)
@@ -233,3 +244,74 @@ portions-fed = feed-gives
 
 pub portions-finished : (p : Portions) → PortionsInRange p → FinishGives p (finishOf p)
 portions-finished = finish-gives
+
+-- ---- Of SCTP, document 02, 4/14: "132 carries both ports as well." By `fitsBefore` only TCP and UDP do
+-- two answers to which protocols carry ports that agree at a header's protocol fit the same there ..
+pub fit-by-protocol : (a b : ℕ → Bool) (f : Filter) (h : Header) → a (h .protocol) ≡ b (h .protocol) → fitsBy a f h ≡ fitsBy b f h
+fit-by-protocol = fits-same
+
+-- .. so packets of another protocol are fitted as they were. A filter that names SCTP fits an SCTP packet exactly where it fitted, naming TCP or UDP, the same
+-- packet of that protocol
+pub other-packets-as-before : (f : Filter) (h : Header) → (h .protocol ≡ sctp → ⊥) → fits f h ≡ fitsBefore f h
+other-packets-as-before = other-packets
+
+pub sctp-as-named : (f : Filter) (h : Header) (p : ℕ) → tcpOrUdp p ≡ true
+    → fits (naming (isProtocol sctp) f) (ofProtocol sctp h) ≡ fitsBefore (naming (isProtocol p) f) (ofProtocol p h)
+sctp-as-named = sctp-named
+
+-- "Held filters with a port and no protocol now fit SCTP packets too": each fits some SCTP packet, and no filter with a port fitted any; and it fits an SCTP
+-- packet exactly where it fitted the same packet of TCP or UDP
+pub sctp-fitted-too : (f : Filter) → PortNoProtocol f → SomePacketFitted f → FitsSctpToo f
+sctp-fitted-too = sctp-too
+
+pub port-fitted-no-sctp : (f : Filter) → (NoPort f → ⊥) → (h : Header) → h .protocol ≡ sctp → fitsBefore f h ≡ false
+port-fitted-no-sctp = port-before
+
+pub sctp-as-open : (f : Filter) → f .protocol ≡ noProtocol → (h : Header) (p : ℕ) → tcpOrUdp p ≡ true
+    → fits f (ofProtocol sctp h) ≡ fitsBefore f (ofProtocol p h)
+sctp-as-open = sctp-alike
+
+-- "every other held filter fits what it fitted before", and nothing else. Every filter fits all that it fitted
+pub other-filters-as-before : (f : Filter) → SomePacketFitted f → (PortNoProtocol f → ⊥) → (h : Header) → fits f h ≡ fitsBefore f h
+other-filters-as-before = other-filters
+
+pub fits-as-before : (f : Filter) (h : Header) → fitsBefore f h ≡ true → fits f h ≡ true
+fits-as-before = fits-still
+
+-- "cause 44 .. follow", by `some-packet` and `cause-44`: some packet fits exactly the filters that some packet fitted, and those with a port and SCTP that some
+-- would have fitted with TCP in the place of SCTP. None fitted these
+pub fitted-from-now-on : (f : Filter) → SomePacketFits f ↔ (SomePacketFitted f ⊎ (PortOfSctp f × SomePacketFitted (naming (isProtocol tcp) f)))
+fitted-from-now-on = fitted-now
+
+pub sctp-unfitted-before : (f : Filter) → PortOfSctp f → SomePacketFitted f → ⊥
+sctp-unfitted-before = sctp-unfitted
+
+-- a table that was well formed is, and so no call refuses it with 1; and one that is was well formed exactly where it holds no filter with a port and SCTP
+pub well-formed-stays : (t : Table) → TableInRange t → WellBy fitsBefore (view t) → wellFormed t ≡ true
+well-formed-stays t r w = well-says t r .from (well-more fitsBefore fits (view t) (λ i j l m. still-fitted (filterAt t i j)) w)
+
+pub well-formed-was : (t : Table) → TableInRange t → wellFormed t ≡ true
+    → WellBy fitsBefore (view t) ↔ ((i j : ℕ) → i < bearerCount → j < placeCount → PortOfSctp (filterAt t i j) → ⊥)
+well-formed-was t r e = (
+  λ w i j l m a. sctp-unfitted (filterAt t i j) a (w .fitted i j l m (sctp-held (filterAt t i j) a)),
+  λ none. well-more fits fitsBefore (view t) (λ i j l m s. ⊎-elim (λ b. b) (λ b. absurd (none i j l m (b .0))) (fitted-now (filterAt t i j) .0 s)) (well-says t r .to e),
+)
+
+-- "the routes follow": the right ones are the same for every header of another protocol, whatever the table ..
+pub routes-stay : (t : Table) (default : ℕ) (h : Header) → (h .protocol ≡ sctp → ⊥) → (r : Route) → RightBy fitsBefore t default h r ↔ Right t default h r
+routes-stay t default h n = right-same t default h fitsBefore fits (λ i j u. sym (other-packets (filterAt t i j) h n))
+
+-- .. and for every header that no uplink filter of the connection with a port fits. So a route is another only for a packet of SCTP that such a filter fits
+pub sctp-routes-stay : (t : Table) (default : ℕ) (h : Header) → ((i j : ℕ) → FittingBy fits t default h i j → NoPort (filterAt t i j))
+    → (r : Route) → RightBy fitsBefore t default h r ↔ Right t default h r
+sctp-routes-stay t default h none =
+    right-same t default h fitsBefore fits (λ i j u. sym (portless-packets (filterAt t i j) h (λ e. none i j (record { uplink = u; fit = e }))))
+
+-- .. so that in either case, on a well-formed table, for an active default and a valid header, the call gives the route that was right before
+pub route-given-stays : (t : Table) → TableInRange t → wellFormed t ≡ true → (default : ℕ) → isDefault (roleOf t default) ≡ true
+    → (h : Header) → validHeader h ≡ true → (h .protocol ≡ sctp → ⊥) ⊎ ((i j : ℕ) → FittingBy fits t default h i j → NoPort (filterAt t i j))
+    → (r : Route) → (routeOf t default h ≡ Routed r) ↔ RightBy fitsBefore t default h r
+route-given-stays t k w default d h v case r =
+    let same = ⊎-elim (λ n. routes-stay t default h n r) (λ none. sctp-routes-stay t default h none r) case in
+    let given = route-says t default h k w d v r in
+    (λ e. same .1 (given .0 e), λ x. given .1 (same .0 x))

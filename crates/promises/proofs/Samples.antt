@@ -1,9 +1,9 @@
--- Document 01's sample elements, those marked * and one more: a single list under a single claim about the written definitions, computed; and a
--- sequence of calls with two routes, computed too. Of each sample the whole outcome is shown: reply, follow-up list, and all eleven bearers with their rows;
--- of the sequence every reply, and the whole table after eight calls and at the end.
+-- Document 01's sample elements, those marked * and one more, and that of document 02's 4/14: a single list under a single claim about the written definitions,
+-- computed; and a sequence of calls with two routes, and ten routes of SCTP and its like, computed too. Of each sample the whole outcome is shown: reply,
+-- follow-up list, and all eleven bearers with their rows; of the sequence every reply, and the whole table after eight calls and at the end.
 -- Assumes nothing.
 use mathlib.Core.Path.{_≡_, refl}
-use mathlib.Core.Bool.{_&&_}
+use mathlib.Core.Bool.{Bool, true, not, _&&_}
 use mathlib.Core.List.{List, [], _∷_, _++_, map}
 use Prim.Native.Nat.{ℕ}
 use lib.Dec.{eqb}
@@ -13,8 +13,10 @@ use Rattle.laws.specs.Index.{allBelow, anyBelow, lastBelow, picks, tab, pad, jo
 use Rattle.laws.specs.Lists.{every, isIn, repeats}
 use Rattle.laws.specs.Numbers.{sameUnder}
 use Rattle.laws.specs.Octets.{beFrom}
+use Rattle.laws.proofs.Says.{says-not, says-it, says-all}
 use Rattle.filter.specs.declared.component.RemoteAddress.the-variants.{Absent as noAddress}
-use Rattle.filter.specs.declared.component.Protocol.the-variants.{Is as isProtocol}
+use Rattle.filter.specs.declared.component.Protocol.{Protocol}
+use Rattle.filter.specs.declared.component.Protocol.the-variants.{Absent as noProtocol, Is as isProtocol}
 use Rattle.filter.specs.declared.component.Port.{Port}
 use Rattle.filter.specs.declared.component.Port.the-variants.{Absent as noPort, Is as isPort}
 use Rattle.filter.specs.declared.component.Index.the-variants.{Absent as noIndex}
@@ -24,15 +26,17 @@ use Rattle.filter.specs.declared.component.Filter.{Filter}
 use Rattle.filter.specs.Build.{excluded, added, emptyFilter}
 use Rattle.filter.specs.declared.packet.Header.{Header}
 use Rattle.filter.specs.Coding.{held, wellCoded, emptyPlace, uplink}
-use Rattle.filter.specs.Fit.{validHeader, agreesTransport, agreesNetwork, fits}
+use Rattle.filter.specs.Fit.{validHeader, agreesNetwork, fits}
 use Rattle.filter.specs.Fittable.{sample, fittable}
+use Rattle.filter.specs.Sizes.{placeCount}
+use Rattle.filter.specs.Before.{fitsBefore}
 use Rattle.element.specs.Contents.{lengthOf, componentOf, contentsFrom, contentsOf}
 use Rattle.element.specs.Framing.{splitOf, parameters, restFits, framedBy, framedOf}
 use Rattle.element.specs.Read.{noFilters, noMarks, codedOf, entriesOf as elementEntries, twice, inPlaces, marked, readValue, readElement}
 use Rattle.table.specs.declared.bearer.Role.{Role}
 use Rattle.table.specs.declared.bearer.Role.the-variants.{Idle, Default, Dedicated}
 use Rattle.table.specs.declared.bearer.Table.{Table}
-use Rattle.table.specs.Bearers.{identityOf, emptyTable, build}
+use Rattle.table.specs.Bearers.{bearerCount, identityOf, emptyTable, build, filterAt}
 use Rattle.table.specs.WellFormed.{filterFine, bearerFine, transactionsApart, transactionFrom, distinctTransactions, rowPrecedences, connectionPrecedences, distinctAt, distinctPrecedences, wellFormed}
 use Rattle.calls.specs.declared.reply.Answer.{Answer}
 use Rattle.calls.specs.declared.reply.Answer.the-variants.{Accept, Reject, Release, Reattach, Started, Closed, Synchronised, Refused}
@@ -47,9 +51,11 @@ use Rattle.calls.specs.Others.{activateDefaultOf, activateRead, activateNamed, 
 use Rattle.status.specs.Value.{shownActive}
 use Rattle.status.specs.Take.{goneBy, synchroniseOf}
 use Rattle.route.specs.declared.answer.Route.the-variants.{Bearer}
+use Rattle.route.specs.declared.answer.Answer.{Answer as RouteAnswer}
 use Rattle.route.specs.declared.answer.Answer.the-variants.{Routed}
-use Rattle.route.specs.Lists.{placeHas, bearerHas, entryIn, entryAt, entriesOf}
+use Rattle.route.specs.Lists.{isUplink, placeHas, bearerHas, entryIn, entryAt, entriesOf}
 use Rattle.route.specs.Routes.{filterOf, entryFits, firstFit, uplinkAt, hasUplink, otherwiseOf, routeOn, routeOf}
+use Rattle.route.specs.Rule.{OwnUplink, FittingBy, RightBy, byDefault}
 use Rattle.promises.specs.Calls.{Call, activateDefault, activateDedicated, modify, deactivate, reject, start, synchronise, outcomeOf, run, replies, reached}
 
 -- ---- Tables and filters of the samples
@@ -80,20 +86,24 @@ andSecond = Default ∷ Dedicated 5 ∷ Default ∷ []
 abbrev secondAlone : List Role
 secondAlone = Idle ∷ Idle ∷ Default ∷ []
 
--- "precedence 10, UDP", with this remote port; direction 3, as octet 31 has it; every other component is absent
-abbrev udp : Port → Filter
-udp remote =
+-- precedence 10, with this protocol and these ports; direction 3, as octet 31 has it; every other component is absent
+abbrev over : Protocol → Port → Port → Filter
+over protocol local remote =
     record {
       precedence = 10;
       direction = 3;
       address = noAddress;
-      protocol = isProtocol 17;
-      local = noPort;
+      protocol = protocol;
+      local = local;
       remote = remote;
       index = noIndex;
       class = noClass;
       label = noLabel;
     }
+
+-- "precedence 10, UDP"
+abbrev udp : Port → Filter
+udp remote = over (isProtocol 17) noPort remote
 
 abbrev sip : List ℕ
 sip = 0x21 ∷ 0x31 ∷ 0x0A ∷ 0x05 ∷ 0x30 ∷ 0x11 ∷ 0x50 ∷ 0x13 ∷ 0xC4 ∷ []
@@ -169,6 +179,8 @@ sampleElements =
     -- "`21 31 0A 05 30 01 50 13 C4` (ICMP with a port): 44." "`21 31 0A 05 41 00 02 00 01`: 44."
     ∷ keeps (with fiveAndSix) 6 (0x21 ∷ 0x31 ∷ 0x0A ∷ 0x05 ∷ 0x30 ∷ 0x01 ∷ 0x50 ∷ 0x13 ∷ 0xC4 ∷ []) (rejects 6 44)
     ∷ keeps (with fiveAndSix) 6 (0x21 ∷ 0x31 ∷ 0x0A ∷ 0x05 ∷ 0x41 ∷ 0x00 ∷ 0x02 ∷ 0x00 ∷ 0x01 ∷ []) (rejects 6 44)
+    -- document 02, 4/14: "`21 31 0A 05 30 84 50 13 C4` is accepted from now on."
+    ∷ gives (with fiveAndSix) 6 (0x21 ∷ 0x31 ∷ 0x0A ∷ 0x05 ∷ 0x30 ∷ 0x84 ∷ 0x50 ∷ 0x13 ∷ 0xC4 ∷ []) (accepts 6) [] (holding fiveAndSix 6 1 (over (isProtocol 132) noPort (isPort 5060)))
     -- "`21 31 0A 02 31 11`: 45."
     ∷ keeps (with fiveAndSix) 6 (0x21 ∷ 0x31 ∷ 0x0A ∷ 0x02 ∷ 0x31 ∷ 0x11 ∷ []) (rejects 6 45)
     -- "Add of precedence 10 on 6 while dedicated 7 of that connection holds it: accept, 7 loses it, follow-up 7."
@@ -233,9 +245,10 @@ ending =
     ∷ turn (synchronise (0x9F ∷ 0x00 ∷ [])) synchronises []
     ∷ []
 
--- version 4, UDP, to this remote port
-abbrev udpTo : ℕ → Header
-udpTo port = record { version = 4; address = record { high = 0; low = 0 }; protocol = 17; local = 0; remote = port; index = 0; class = 0; label = 0 }
+-- version 4, of this protocol, with these ports
+abbrev packet : ℕ → ℕ → ℕ → Header
+packet protocol local remote =
+    record { version = 4; address = record { high = 0; low = 0 }; protocol = protocol; local = local; remote = remote; index = 0; class = 0; label = 0 }
 
 abbrev Sequence : Type 0
 Sequence =
@@ -244,17 +257,68 @@ Sequence =
     (map told (replies emptyTable (map called turns)) ≡ map awaited turns)
     -- "After the first sample, header version 4, protocol 17, remote port 5060 routes to 6; 5061 to 5."
     × (sampled ≡ holding fiveAndSix 6 1 (udp (isPort 5060)))
-    × (routeOf sampled 5 (udpTo 5060) ≡ Routed (Bearer 6))
-    × (routeOf sampled 5 (udpTo 5061) ≡ Routed (Bearer 5))
+    × (routeOf sampled 5 (packet 17 0 5060) ≡ Routed (Bearer 6))
+    × (routeOf sampled 5 (packet 17 0 5061) ≡ Routed (Bearer 5))
     × (reached (map called turns) ≡ with secondAlone)
 
--- ---- Both are computed, by opening the definitions that they are said in
-computed : Samples × Sequence
-unfolding allBelow anyBelow picks tab pad every isIn repeats sameUnder beFrom excluded added held wellCoded emptyPlace validHeader agreesTransport agreesNetwork fits sample fittable lengthOf componentOf contentsFrom contentsOf splitOf parameters restFits framedBy framedOf noFilters noMarks codedOf elementEntries twice inPlaces marked readValue readElement filterFine bearerFine transactionsApart transactionFrom distinctTransactions joined rowPrecedences connectionPrecedences distinctAt distinctPrecedences wellFormed opensAt isOpen closed ofConnection deletedIn holdsIn staysIn empties old takenBy takes conflict placed conflictIn loses placedIn losesAt conflictOnDefault follows released followers otherAt onlyConnection layWithin layOf headFine deletedFilters deletedTft modifyRead modifyNamed modifyOf dropped isAt ownerOf run replies emptyTable activateDefaultOf activateRead activateNamed activateDedicatedOf deactivateOf rejectOf startOf lastBelow uplink placeHas bearerHas entryIn entryAt entriesOf filterOf entryFits firstFit uplinkAt hasUplink otherwiseOf routeOn routeOf shownActive goneBy synchroniseOf
-computed = (refl, (refl, refl, refl, refl, refl))
+-- ---- Of SCTP: where 6 holds a filter with this protocol and both ports, local 2905 and remote 5060, the routes of packets with these ports: of TCP, UDP, SCTP,
+-- and UDP-Lite, which carries no ports here
+abbrev bothPorts : Protocol → Table
+bothPorts protocol = holding fiveAndSix 6 1 (over protocol (isPort 2905) (isPort 5060))
+
+abbrev routesOf : Protocol → List RouteAnswer
+routesOf protocol = map (λ (n : ℕ). routeOf (bothPorts protocol) 5 (packet n 2905 5060)) (6 ∷ 17 ∷ 132 ∷ 136 ∷ [])
+
+abbrev sentOn : List ℕ → List RouteAnswer
+sentOn bearers = map (λ (b : ℕ). Routed (Bearer b)) bearers
+
+abbrev SctpRoutes : Type 0
+SctpRoutes =
+    (routesOf (isProtocol 132) ≡ sentOn (5 ∷ 5 ∷ 6 ∷ 5 ∷ []))
+    × (routesOf noProtocol ≡ sentOn (6 ∷ 6 ∷ 6 ∷ 5 ∷ []))
+    -- each of the two ports counts
+    × (routeOf (bothPorts (isProtocol 132)) 5 (packet 132 2905 5061) ≡ Routed (Bearer 5))
+    × (routeOf (bothPorts (isProtocol 132)) 5 (packet 132 2906 5060) ≡ Routed (Bearer 5))
+
+-- ---- All are computed, by opening the definitions that they are said in
+computed : Samples × Sequence × SctpRoutes
+unfolding allBelow anyBelow picks tab pad every isIn repeats sameUnder beFrom excluded added held wellCoded emptyPlace validHeader agreesNetwork fits sample fittable lengthOf componentOf contentsFrom contentsOf splitOf parameters restFits framedBy framedOf noFilters noMarks codedOf elementEntries twice inPlaces marked readValue readElement filterFine bearerFine transactionsApart transactionFrom distinctTransactions joined rowPrecedences connectionPrecedences distinctAt distinctPrecedences wellFormed opensAt isOpen closed ofConnection deletedIn holdsIn staysIn empties old takenBy takes conflict placed conflictIn loses placedIn losesAt conflictOnDefault follows released followers otherAt onlyConnection layWithin layOf headFine deletedFilters deletedTft modifyRead modifyNamed modifyOf dropped isAt ownerOf run replies emptyTable activateDefaultOf activateRead activateNamed activateDedicatedOf deactivateOf rejectOf startOf lastBelow uplink placeHas bearerHas entryIn entryAt entriesOf filterOf entryFits firstFit uplinkAt hasUplink otherwiseOf routeOn routeOf shownActive goneBy synchroniseOf
+computed = (refl, (refl, refl, refl, refl, refl), (refl, refl, refl, refl))
 
 pub samples : Samples
 samples = computed .0
 
 pub sequence : Sequence
 sequence = computed .1
+
+pub sctp-routes : SctpRoutes
+sctp-routes = computed .2
+
+-- ---- Before SCTP carried ports, the packet of SCTP that the filter without a protocol sends on 6 was right on 5
+abbrev sctpPacket : Header
+sctpPacket = packet 132 2905 5060
+
+abbrev upAt : ℕ → ℕ → Bool
+upAt i j = isUplink (filterAt (bothPorts noProtocol) i j)
+
+abbrev fittedAt : ℕ → ℕ → Bool
+fittedAt i j = upAt i j && fitsBefore (filterAt (bothPorts noProtocol) i j) sctpPacket
+
+none-of-default : allBelow (λ (j : ℕ). not (upAt 0 j)) placeCount ≡ true
+unfolding allBelow tab held uplink
+none-of-default = refl
+
+none-fitted : allBelow (λ (i : ℕ). allBelow (λ (j : ℕ). not (fittedAt i j)) placeCount) bearerCount ≡ true
+unfolding allBelow tab held uplink agreesNetwork
+none-fitted = refl
+
+pub sctp-route-before : RightBy fitsBefore (bothPorts noProtocol) 5 sctpPacket (Bearer 5)
+sctp-route-before = byDefault none own refl
+  where
+    none : (i j : ℕ) → FittingBy fitsBefore (bothPorts noProtocol) 5 sctpPacket i j → ⊥
+    none i j g =
+        says-all bearerCount (λ k l. says-all placeCount (λ m n. says-not (says-it (fittedAt k m)))) .to none-fitted i (g .uplink .bearer) j (g .uplink .place)
+        (rw (g .uplink .up) (g .fit))
+
+    own : (j : ℕ) → OwnUplink (bothPorts noProtocol) 5 j → ⊥
+    own j o = says-all placeCount (λ m n. says-not (says-it (upAt 0 m))) .to none-of-default j (o .0) (o .1)
