@@ -24,9 +24,6 @@ use Rattle.filter.proofs.Rules.{fits-alike, fits-same, portless-same, f
 carried : (p : ℕ) → tcpOrUdp p ≡ true → carriesPorts p ≡ true
 carried p e = or-left (tcpOrUdp p) _ e
 
-others : (p : ℕ) → (p ≡ sctp → ⊥) → carriesPorts p ≡ tcpOrUdp p
-others p n = rw (says-no (says-eq p sctp) n) (or-false (tcpOrUdp p))
-
 no-index : (p : ℕ) → carriesPorts p ≡ true → carriesIndex p ≡ false
 no-index p t = says-no (says-it (carriesIndex p)) (apart p t)
 
@@ -49,6 +46,9 @@ pub sctp-alike : (f : Filter) → f .protocol ≡ noProtocol → (h : Header) (p
 sctp-alike f none h p t = like f (f .protocol) (f .protocol) h p (any-protocol f sctp p none) t
 
 -- ---- packets of another protocol are fitted as they were
+others : (p : ℕ) → (p ≡ sctp → ⊥) → carriesPorts p ≡ tcpOrUdp p
+others p n = rw (says-no (says-eq p sctp) n) (or-false (tcpOrUdp p))
+
 pub other-packets : (f : Filter) (h : Header) → (h .protocol ≡ sctp → ⊥) → fits f h ≡ fitsBefore f h
 unfolding fits
 other-packets f h n = fits-same carriesPorts tcpOrUdp f h (others (h .protocol) n)
