@@ -26,15 +26,9 @@ use Rattle.route.specs.declared.list.Entry.{Entry}
 use Rattle.route.specs.Lists.{isUplink, precedenceAt, nothing, entriesOf, listOf}
 use Rattle.route.specs.Positions.{Stands}
 use Rattle.route.specs.Routes.{numberOf, entryFits, firstFit, uplinkAt, hasUplink, otherwiseOf, routeOn, routeOf}
-use Rattle.route.specs.Rule.{FittingBy, NoneFitsBy, Right, byFilter, byDefault, discarded, RouteNumbered}
+use Rattle.route.specs.Rule.{Fitting, NoneFits, Right, byFilter, byDefault, discarded, RouteNumbered}
 use Rattle.route.proofs.Firsts.{entry-fits, nothing-fits}
 use Rattle.route.proofs.Listing.{entries-length, list-stands, same-place, position, list-at}
-
-abbrev Fitting : Table → ℕ → Header → ℕ → ℕ → Type 0
-Fitting t default h i j = FittingBy fits t default h i j
-
-abbrev NoneFits : Table → ℕ → Header → Type 0
-NoneFits t default h = NoneFitsBy fits t default h
 
 -- ---- the first position that fits, over any list
 module _ (t : Table) (h : Header) (otherwise : Route) where

@@ -20,7 +20,7 @@ use Rattle.route.specs.Positions.{Uplink}
 abbrev pub OwnUplink : Table → ℕ → ℕ → Type 0
 OwnUplink t default j = (j < placeCount) × (isUplink (filterAt t (indexOf default) j) ≡ true)
 
--- the rule, where a test of fit says what fits; document 01's is `fits`
+-- the rule, where a test of fit says what fits
 module _ (test : Filter → Header → Bool) (t : Table) where
   -- an uplink filter of the default's connection that fits the header
   pub record FittingBy (default : ℕ) (h : Header) (i j : ℕ) : Type 0 where
@@ -41,7 +41,13 @@ module _ (test : Filter → Header → Bool) (t : Table) where
     byDefault : NoneFitsBy default h → ((j : ℕ) → OwnUplink t default j → ⊥) → r ≡ Bearer default → RightBy default h r
     discarded : NoneFitsBy default h → (j : ℕ) → OwnUplink t default j → r ≡ Discard → RightBy default h r
 
--- the right routes
+-- ---- the rule as it is: what fits, `fits` says
+abbrev pub Fitting : Table → ℕ → Header → ℕ → ℕ → Type 0
+Fitting t default h i j = FittingBy fits t default h i j
+
+abbrev pub NoneFits : Table → ℕ → Header → Type 0
+NoneFits t default h = NoneFitsBy fits t default h
+
 abbrev pub Right : Table → ℕ → Header → Route → Type 0
 Right t default h r = RightBy fits t default h r
 
