@@ -3,6 +3,7 @@
 -- follow-up list, and all eleven bearers with their rows; of the sequence every reply, and the whole table after eight calls and at the end.
 -- Assumes nothing.
 use mathlib.Core.Path.{_≡_, refl}
+use mathlib.Core.Logic.{_↔_}
 use mathlib.Core.Bool.{Bool, true, not, _&&_}
 use mathlib.Core.List.{List, [], _∷_, _++_, map}
 use Prim.Native.Nat.{ℕ}
@@ -50,12 +51,13 @@ use Rattle.calls.specs.Modify.{deletedFilters, deletedTft, modifyRead, modifyNa
 use Rattle.calls.specs.Others.{activateDefaultOf, activateRead, activateNamed, activateDedicatedOf, deactivateOf, rejectOf, startOf}
 use Rattle.status.specs.Value.{shownActive}
 use Rattle.status.specs.Take.{goneBy, synchroniseOf}
+use Rattle.route.specs.declared.answer.Route.{Route}
 use Rattle.route.specs.declared.answer.Route.the-variants.{Bearer}
 use Rattle.route.specs.declared.answer.Answer.{Answer as RouteAnswer}
 use Rattle.route.specs.declared.answer.Answer.the-variants.{Routed}
 use Rattle.route.specs.Lists.{isUplink, placeHas, bearerHas, entryIn, entryAt, entriesOf}
 use Rattle.route.specs.Routes.{filterOf, entryFits, firstFit, uplinkAt, hasUplink, otherwiseOf, routeOn, routeOf}
-use Rattle.route.specs.Rule.{OwnUplink, FittingBy, RightBy, byDefault}
+use Rattle.route.specs.Rule.{OwnUplink, FittingBy, RightBy, byFilter, byDefault, discarded}
 use Rattle.promises.specs.Calls.{Call, activateDefault, activateDedicated, modify, deactivate, reject, start, synchronise, outcomeOf, run, replies, reached}
 
 -- ---- Tables and filters of the samples
@@ -294,7 +296,7 @@ sequence = computed .1
 pub sctp-routes : SctpRoutes
 sctp-routes = computed .2
 
--- ---- Before SCTP carried ports, the packet of SCTP that the filter without a protocol sends on 6 was right on 5
+-- ---- Before SCTP carried ports, the packet of SCTP that the filter without a protocol sends on 6 was right on 5, and nowhere else
 abbrev sctpPacket : Header
 sctpPacket = packet 132 2905 5060
 
@@ -312,8 +314,8 @@ none-fitted : allBelow (λ (i : ℕ). allBelow (λ (j : ℕ). not (fittedAt i j)
 unfolding allBelow tab held uplink agreesNetwork
 none-fitted = refl
 
-pub sctp-route-before : RightBy fitsBefore (bothPorts noProtocol) 5 sctpPacket (Bearer 5)
-sctp-route-before = byDefault none own refl
+pub sctp-route-before : (r : Route) → RightBy fitsBefore (bothPorts noProtocol) 5 sctpPacket r ↔ (r ≡ Bearer 5)
+sctp-route-before r = (to, byDefault none own)
   where
     none : (i j : ℕ) → FittingBy fitsBefore (bothPorts noProtocol) 5 sctpPacket i j → ⊥
     none i j g =
@@ -322,3 +324,8 @@ sctp-route-before = byDefault none own refl
 
     own : (j : ℕ) → OwnUplink (bothPorts noProtocol) 5 j → ⊥
     own j o = says-all placeCount (λ m n. says-not (says-it (upAt 0 m))) .to none-of-default j (o .0) (o .1)
+
+    to : RightBy fitsBefore (bothPorts noProtocol) 5 sctpPacket r → r ≡ Bearer 5
+    to (byFilter i j l e) = absurd (none i j (l .fitting))
+    to (byDefault empty bare e) = e
+    to (discarded empty j o e) = absurd (own j o)
