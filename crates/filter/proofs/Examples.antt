@@ -7,7 +7,7 @@ use Rattle.laws.specs.Numbers.{sameUnder}
 use Rattle.filter.specs.declared.component.Filter.{Filter}
 use Rattle.filter.specs.declared.packet.Header.{Header}
 use Rattle.filter.specs.Coding.{held, wellCoded, emptyPlace, uplink}
-use Rattle.filter.specs.Build.{Component, ipv4Remote, ipv6Remote, protocol, localPort, localRange, remotePort, index, class, label, excluded, bare, added, built}
+use Rattle.filter.specs.Build.{Component, ipv4Remote, ipv6Remote, protocol, localPort, localRange, remotePort, remoteRange, index, class, label, excluded, bare, added, built}
 use Rattle.filter.specs.Fit.{validHeader, agreesNetwork, fits}
 use Rattle.filter.specs.Fittable.{sample, fittable}
 
@@ -59,8 +59,13 @@ examples : every (
     ∷ fits (with (class 0xBA 0xFC ∷ [])) (packet 4 0 0 0)
     ∷ fits (with (label 5 ∷ [])) (packet 6 0 0 5)
     ∷ not (fits (with (label 5 ∷ [])) (packet 4 0 0 5))
-    -- a range holds both its ends
+    -- a range holds both its ends and what is between
     ∷ fits (with (localRange 1000 1000 ∷ [])) (packet 4 6 0 0)
+    ∷ fits (with (localRange 1000 1002 ∷ [])) (packet 4 6 0 0)
+    ∷ fits (with (localRange 998 1000 ∷ [])) (packet 4 17 0 0)
+    ∷ fits (with (protocol 132 ∷ localRange 999 1001 ∷ [])) (packet 4 132 0 0)
+    ∷ fits (with (remoteRange 5000 5060 ∷ [])) (packet 6 132 5060 0)
+    ∷ not (fits (with (protocol 132 ∷ remoteRange 5000 5059 ∷ [])) (packet 6 132 5060 0))
     ∷ not (fits (with (localRange 1001 2000 ∷ [])) (packet 4 6 0 0))
     ∷ not (fits (with (localRange 1 999 ∷ [])) (packet 4 6 0 0))
     -- no packet: a range that ends before it starts, ICMP or UDP-Lite with a port, SCTP with an index, ports with an index, IPv4 with a label
