@@ -70,14 +70,15 @@ unfolding agreesNetwork
 fits-all a f h g = rw (g .protocol, g .local, g .remote, g .index, g .address, g .class, g .label)
 
 -- ---- a filter by two answers
--- where the protocols' components agree alike, and as much counts for the one protocol as for the other
+-- by a, naming c, it fits a packet of protocol p exactly where by b, naming d, it fits the same packet of protocol q: where c agrees with p as d does with q, and
+-- ports and index count for p as they do for q
 pub fits-alike : (a b : ℕ → Bool) (f : Filter) (c d : Protocol) (h : Header) (p q : ℕ) → agreesProtocol c p ≡ agreesProtocol d q → a p ≡ b q
     → carriesIndex p ≡ carriesIndex q → fitsBy a (naming c f) (ofProtocol p h) ≡ fitsBy b (naming d f) (ofProtocol q h)
 unfolding agreesNetwork
 fits-alike a b f c d h p q t e i =
     rw (t, port-same a b (f .local) p q (h .local) e, port-same a b (f .remote) p q (h .remote) e, index-same (f .index) p q (h .index) i)
 
--- two that agree at a header's protocol fit the same there
+-- by two that agree at a header's protocol it fits the same there
 pub fits-same : (a b : ℕ → Bool) (f : Filter) (h : Header) → a (h .protocol) ≡ b (h .protocol) → fitsBy a f h ≡ fitsBy b f h
 fits-same a b f h e = fits-alike a b f (f .protocol) (f .protocol) h (h .protocol) (h .protocol) refl e refl
 

@@ -7,7 +7,7 @@ use native.Mathlib.Omega.{arith}
 use lib.Dec.{eqb}
 use borrow.Author.Tests.{eqb-true, eq-eqb}
 use Rattle.laws.proofs.Says.{which, never, says-no, says-ne, says-eq, says-it}
-use Rattle.laws.proofs.Tests.{or-left, or-right, or-false}
+use Rattle.laws.proofs.Tests.{either, or-right, or-false}
 use Rattle.filter.specs.declared.component.Protocol.{Protocol}
 use Rattle.filter.specs.declared.component.Protocol.the-variants.{Absent as noProtocol, Is as isProtocol}
 use Rattle.filter.specs.declared.component.Filter.{Filter}
@@ -16,13 +16,16 @@ use Rattle.filter.specs.Component.{typeOfAddress, present}
 use Rattle.filter.specs.Coding.{held}
 use Rattle.filter.specs.Fit.{carriesPorts, carriesIndex, agreesProtocol, validHeader, fits}
 use Rattle.filter.specs.Fittable.{SomePacketFits}
-use Rattle.filter.specs.Before.{tcp, sctp, tcpOrUdp, fitsBefore, SomePacketFitted, NoPort, PortNoProtocol, PortOfSctp, naming, ofProtocol, FitsSctpToo}
+use Rattle.filter.specs.Before.{tcp, udp, sctp, tcpOrUdp, fitsBefore, SomePacketFitted, NoPort, PortNoProtocol, PortOfSctp, naming, ofProtocol, FitsSctpToo}
 use Rattle.filter.proofs.Samples.{apart}
 use Rattle.filter.proofs.Rules.{fits-alike, fits-same, portless-same, fits-carries, fits-named, has-port, of-range, some-at, some-by, fits-more, fits-no-more}
 
 -- ---- the two answers to which protocols carry ports
 carried : (p : ℕ) → tcpOrUdp p ≡ true → carriesPorts p ≡ true
-carried p e = or-left (tcpOrUdp p) _ e
+carried p e = ⊎-elim (known p tcp refl) (known p udp refl) (either (eqb p tcp) (eqb p udp) e)
+  where
+    known : (p q : ℕ) → carriesPorts q ≡ true → eqb p q ≡ true → carriesPorts p ≡ true
+    known p q c t = rw (eqb-true p q t) c
 
 no-index : (p : ℕ) → carriesPorts p ≡ true → carriesIndex p ≡ false
 no-index p t = says-no (says-it (carriesIndex p)) (apart p t)
@@ -44,6 +47,24 @@ sctp-named f h p t = like f (isProtocol sctp) (isProtocol p) h p (sym (eq-eqb p 
 -- a filter without a protocol fits one exactly where it fitted the same packet of TCP or UDP
 pub sctp-alike : (f : Filter) → f .protocol ≡ noProtocol → (h : Header) (p : ℕ) → tcpOrUdp p ≡ true → fits f (ofProtocol sctp h) ≡ fitsBefore f (ofProtocol p h)
 sctp-alike f none h p t = like f (f .protocol) (f .protocol) h p (any-protocol f sctp p none) t
+
+-- ---- "Held filters with a port and no protocol now fit SCTP packets too"
+-- .. of which no filter with a port fitted any
+pub port-before : (f : Filter) → (NoPort f → ⊥) → (h : Header) → h .protocol ≡ sctp → fitsBefore f h ≡ false
+port-before f port h e = says-no (says-it (fitsBefore f h)) (λ b. never (rw e at (fits-carries tcpOrUdp f h port b)) refl)
+
+pub sctp-too : (f : Filter) → PortNoProtocol f → SomePacketFitted f → FitsSctpToo f
+unfolding validHeader
+sctp-too f a s =
+    let h = s .header in
+    record {
+      header = ofProtocol sctp h;
+      inRange = of-range sctp h (omega arith) (s .inRange);
+      valid = s .valid;
+      ofSctp = refl;
+      before = port-before f (a .port) (ofProtocol sctp h) refl;
+      now = sctp-alike f (a .protocol) h (h .protocol) (fits-carries tcpOrUdp f h (a .port) (s .agrees)) ∙ s .agrees;
+    }
 
 -- ---- packets of another protocol are fitted as they were
 others : (p : ℕ) → (p ≡ sctp → ⊥) → carriesPorts p ≡ tcpOrUdp p
@@ -68,28 +89,10 @@ unfolding fits
 portless-packets f h none =
     ⊎-elim (λ e. portless-same carriesPorts tcpOrUdp f h (none e)) (λ n. n ∙ sym (says-no (says-it (fitsBefore f h)) (λ e. never (fits-still f h e) n))) (which (fits f h))
 
--- ---- "Held filters with a port and no protocol now fit SCTP packets too"
--- .. of which no filter with a port fitted any
-pub port-before : (f : Filter) → (NoPort f → ⊥) → (h : Header) → h .protocol ≡ sctp → fitsBefore f h ≡ false
-port-before f port h e = says-no (says-it (fitsBefore f h)) (λ b. never (rw e at (fits-carries tcpOrUdp f h port b)) refl)
-
-pub sctp-too : (f : Filter) → PortNoProtocol f → SomePacketFitted f → FitsSctpToo f
-unfolding validHeader
-sctp-too f a s =
-    let h = s .header in
-    record {
-      header = ofProtocol sctp h;
-      inRange = of-range sctp h (omega arith) (s .inRange);
-      valid = s .valid;
-      ofSctp = refl;
-      before = port-before f (a .port) (ofProtocol sctp h) refl;
-      now = sctp-alike f (a .protocol) h (h .protocol) (fits-carries tcpOrUdp f h (a .port) (s .agrees)) ∙ s .agrees;
-    }
-
--- ---- a filter that names SCTP is held
-pub sctp-held : (f : Filter) → PortOfSctp f → held f ≡ true
+-- ---- a filter that names a protocol is held
+pub named-held : (f : Filter) (x : ℕ) → f .protocol ≡ isProtocol x → held f ≡ true
 unfolding held
-sctp-held f a = rw (a .protocol) (or-right (present (typeOfAddress (f .address))) _ refl)
+named-held f x q = rw q (or-right (present (typeOfAddress (f .address))) _ refl)
 
 -- ---- which filters some packet fits: those that some packet fitted ..
 pub still-fitted : (f : Filter) → SomePacketFitted f → SomePacketFits f

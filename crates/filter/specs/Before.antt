@@ -1,5 +1,6 @@
 -- Fit as it was before document 02's 4/14, "132 carries both ports as well", to say what became of filters, tables and routes. No function computes it. It is
--- Fit with another answer to which protocols carry ports: all else is as it stands there, and 4/14 changed nothing else.
+-- Fit with another answer to which protocols carry ports: all else is as it stands there, and 4/14 changed nothing else. So what is said here of before and now is
+-- of this answer alone; a change of all else would be a change of both.
 use mathlib.Core.Path.{_≡_}
 use Prim.Native.Nat.{ℕ}
 use mathlib.Core.Bool.{Bool, true, false, _||_}
@@ -16,13 +17,16 @@ use Rattle.filter.specs.Fittable.{SomePacketFitsBy}
 abbrev pub tcp : ℕ
 tcp = 6
 
+abbrev pub udp : ℕ
+udp = 17
+
 -- "SCTP, protocol 132"
 abbrev pub sctp : ℕ
 sctp = 132
 
 -- "document 01 gives ports only to TCP and UDP"
 abbrev pub tcpOrUdp : ℕ → Bool
-tcpOrUdp protocol = eqb protocol 6 || eqb protocol 17
+tcpOrUdp protocol = eqb protocol tcp || eqb protocol udp
 
 abbrev pub fitsBefore : Filter → Header → Bool
 fitsBefore f h = fitsBy tcpOrUdp f h

@@ -20,7 +20,7 @@ use Rattle.filter.specs.Ranges.{FilterInRange}
 use Rattle.filter.specs.Before.{tcp, sctp, tcpOrUdp, fitsBefore, SomePacketFitted, NoPort, PortNoProtocol, PortOfSctp, naming, ofProtocol, FitsSctpToo}
 use Rattle.filter.proofs.Theorems.{fittable-says}
 use Rattle.filter.proofs.Rules.{fits-same}
-use Rattle.filter.proofs.Sctp.{sctp-named, sctp-alike, other-packets, fits-still, other-filters, portless-packets, port-before, sctp-too, sctp-held, still-fitted, sctp-unfitted, fitted-now}
+use Rattle.filter.proofs.Sctp.{sctp-named, sctp-alike, other-packets, fits-still, other-filters, portless-packets, port-before, sctp-too, named-held, still-fitted, sctp-unfitted, fitted-now}
 use Rattle.element.specs.declared.answer.Element.{Element}
 use Rattle.element.specs.declared.write.Written.the-variants.{Wrote}
 use Rattle.element.specs.Head.{longest}
@@ -64,7 +64,7 @@ use Rattle.promises.specs.Calls.{Call, activateDefault, activateDedicate
 use Rattle.route.specs.Routes.{numberOf as routeNumber, routeOf}
 use Rattle.route.specs.declared.answer.Route.{Route}
 use Rattle.route.specs.declared.answer.Answer.the-variants.{Routed}
-use Rattle.route.specs.Rule.{FittingBy, Right, RightBy, RouteNumbered}
+use Rattle.route.specs.Rule.{Fitting, Right, RightBy, RouteNumbered}
 use Rattle.route.proofs.Theorems.{route-numbers, route-says}
 use Rattle.route.proofs.Rules.{right-same}
 
@@ -246,7 +246,7 @@ pub portions-finished : (p : Portions) → PortionsInRange p → FinishGives p (
 portions-finished = finish-gives
 
 -- ---- Of SCTP, document 02, 4/14: "132 carries both ports as well." By `fitsBefore` only TCP and UDP do
--- two answers to which protocols carry ports that agree at a header's protocol fit the same there ..
+-- by two answers to which protocols carry ports that agree at a header's protocol, a filter fits the same there ..
 pub fit-by-protocol : (a b : ℕ → Bool) (f : Filter) (h : Header) → a (h .protocol) ≡ b (h .protocol) → fitsBy a f h ≡ fitsBy b f h
 fit-by-protocol = fits-same
 
@@ -293,7 +293,7 @@ well-formed-stays t r w = well-says t r .from (well-more fitsBefore fits (view t
 pub well-formed-was : (t : Table) → TableInRange t → wellFormed t ≡ true
     → WellBy fitsBefore (view t) ↔ ((i j : ℕ) → i < bearerCount → j < placeCount → PortOfSctp (filterAt t i j) → ⊥)
 well-formed-was t r e = (
-  λ w i j l m a. sctp-unfitted (filterAt t i j) a (w .fitted i j l m (sctp-held (filterAt t i j) a)),
+  λ w i j l m a. sctp-unfitted (filterAt t i j) a (w .fitted i j l m (named-held (filterAt t i j) sctp (a .protocol))),
   λ none. well-more fits fitsBefore (view t) (λ i j l m s. ⊎-elim (λ b. b) (λ b. absurd (none i j l m (b .0))) (fitted-now (filterAt t i j) .0 s)) (well-says t r .to e),
 )
 
@@ -302,14 +302,14 @@ pub routes-stay : (t : Table) (default : ℕ) (h : Header) → (h .protocol ≡ 
 routes-stay t default h n = right-same t default h fitsBefore fits (λ i j u. sym (other-packets (filterAt t i j) h n))
 
 -- .. and for every header that no uplink filter of the connection with a port fits. So a route is another only for a packet of SCTP that such a filter fits
-pub sctp-routes-stay : (t : Table) (default : ℕ) (h : Header) → ((i j : ℕ) → FittingBy fits t default h i j → NoPort (filterAt t i j))
+pub sctp-routes-stay : (t : Table) (default : ℕ) (h : Header) → ((i j : ℕ) → Fitting t default h i j → NoPort (filterAt t i j))
     → (r : Route) → RightBy fitsBefore t default h r ↔ Right t default h r
 sctp-routes-stay t default h none =
     right-same t default h fitsBefore fits (λ i j u. sym (portless-packets (filterAt t i j) h (λ e. none i j (record { uplink = u; fit = e }))))
 
 -- .. so that in either case, on a well-formed table, for an active default and a valid header, the call gives the route that was right before
 pub route-given-stays : (t : Table) → TableInRange t → wellFormed t ≡ true → (default : ℕ) → isDefault (roleOf t default) ≡ true
-    → (h : Header) → validHeader h ≡ true → (h .protocol ≡ sctp → ⊥) ⊎ ((i j : ℕ) → FittingBy fits t default h i j → NoPort (filterAt t i j))
+    → (h : Header) → validHeader h ≡ true → (h .protocol ≡ sctp → ⊥) ⊎ ((i j : ℕ) → Fitting t default h i j → NoPort (filterAt t i j))
     → (r : Route) → (routeOf t default h ≡ Routed r) ↔ RightBy fitsBefore t default h r
 route-given-stays t k w default d h v case r =
     let same = ⊎-elim (λ n. routes-stay t default h n r) (λ none. sctp-routes-stay t default h none r) case in
