@@ -1,6 +1,6 @@
 -- Lists of numbers joined from pieces: what is in them, and when none is there twice.
 use mathlib.Core.Path.{_≡_, refl, sym, _∙_, ap, ap₂, subst}
-use mathlib.Core.Bool.{Bool, true, false, _||_, or-assoc}
+use mathlib.Core.Bool.{Bool, true, false, _||_, or-assoc, false≢true}
 use mathlib.Core.Logic.{_⊎_, inl, inr, ⊎-elim}
 use mathlib.Core.List.{List, [], _∷_, _++_, map}
 use Prim.Native.Nat.{ℕ, zero, suc, _<_}
@@ -35,6 +35,16 @@ in-left x xs ys h = in-append x xs ys ∙ or-left (isIn x xs) (isIn x ys) h
 
 pub in-right : (x : ℕ) (xs ys : List ℕ) → In x ys → In x (xs ++ ys)
 in-right x xs ys h = in-append x xs ys ∙ or-right (isIn x xs) (isIn x ys) h
+
+-- what holds of each element holds of a number that is in the list
+pub in-holds : (P : ℕ → Type 0) (xs : List ℕ) → All P xs → (n : ℕ) → In n xs → P n
+unfolding isIn
+in-holds P [] a n h = absurd (false≢true h)
+in-holds P (x ∷ xs) a n h = ⊎-elim (λ e. subst P (sym (eqb-true n x e)) (a .0)) (in-holds P xs (a .1) n) (either (eqb n x) (isIn n xs) h)
+
+-- a number that is in a list is none that is not
+pub in-apart : (n k : ℕ) (xs : List ℕ) → In n xs → isIn k xs ≡ false → n ≡ k → ⊥
+in-apart n k xs h o e = never h (rw e o)
 
 in-head : (x : ℕ) (xs : List ℕ) → In x (x ∷ xs)
 unfolding isIn

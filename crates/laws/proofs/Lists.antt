@@ -5,7 +5,7 @@ use mathlib.Core.Bool.{Bool, true}
 use mathlib.Core.List.{List, [], _∷_, _++_}
 use Prim.Native.Nat.{ℕ, zero, suc, _<_}
 use native.Mathlib.Omega.{arith}
-use lib.ListN.{length, set, replicate, length-append}
+use lib.ListN.{length, getD, set, replicate, length-append}
 use lib.Seq.{set-at, append-snoc}
 use Rattle.laws.specs.Index.{tab}
 use Rattle.laws.specs.Lists.{All, every, fold, Each}
@@ -22,6 +22,12 @@ module _ {A : Type 0} (P : A → Type 0) where
   all-set [] i a h p = tt
   all-set (x ∷ xs) zero a h p = (p, h .1)
   all-set (x ∷ xs) (suc i) a h p = (h .0, all-set xs i a (h .1) p)
+
+  -- .. at any place, past the end too, where it holds of what is said to stand there
+  pub all-at : (xs : List A) (d : A) → All P xs → P d → (i : ℕ) → P (getD xs i d)
+  all-at [] d h p i = p
+  all-at (x ∷ xs) d h p zero = h .0
+  all-at (x ∷ xs) d h p (suc i) = all-at xs d (h .1) p i
 
   -- n equal elements
   all-replicate : (n : ℕ) (a : A) → P a → All P (replicate n a)

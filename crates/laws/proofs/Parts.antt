@@ -72,6 +72,12 @@ pad-take n [] l = refl
 pad-take zero (x ∷ xs) l = absurd (not-suc-le-zero l)
 pad-take (suc n) (x ∷ xs) l = ap (λ (ys : List ℕ). x ∷ ys) (pad-take n xs (le-of-suc-le-suc l))
 
+pub pad-long : (n : ℕ) (xs : List ℕ) → length (pad n xs) ≡ n
+unfolding pad
+pad-long zero xs = refl
+pad-long (suc n) [] = ap suc (pad-long n [])
+pad-long (suc n) (x ∷ xs) = ap suc (pad-long n xs)
+
 module _ (test : ℕ → Bool) where
   -- zero passes the test, and so does all that is beyond the end
   pub pad-rests : test 0 ≡ true → (n : ℕ) (xs : List ℕ) → every test (drop (length xs) (pad n xs)) ≡ true

@@ -18,6 +18,10 @@ pub or-true : (b : Bool) → b || true ≡ true
 or-true true = refl
 or-true false = refl
 
+pub and-false : (b : Bool) → b && false ≡ false
+and-false true = refl
+and-false false = refl
+
 pub or-false : (b : Bool) → b || false ≡ b
 or-false true = refl
 or-false false = refl
