@@ -10,7 +10,7 @@ use Rattle.element.specs.declared.answer.Cause.the-variants.{Operation, Semanti
 use Rattle.calls.specs.declared.reply.Cause.{Cause}
 use Rattle.calls.specs.declared.reply.Cause.the-variants.{TftSemantics, TftSyntax, BearerIdentity, FilterSemantics, FilterSyntax, Transaction}
 use Rattle.calls.specs.declared.reply.Refusal.{Refusal}
-use Rattle.calls.specs.declared.reply.Refusal.the-variants.{NotWellFormed, NotOpen, NoIdentity, AlreadyOpen, NoBearer, BearerBusy, StatusLength}
+use Rattle.calls.specs.declared.reply.Refusal.the-variants.{NotWellFormed, NotOpen, NoIdentity, AlreadyOpen, NoBearer, BearerBusy, StatusLength, UnknownMessage, MessageFraming}
 use Rattle.calls.specs.declared.reply.Answer.{Answer}
 use Rattle.calls.specs.declared.reply.Answer.the-variants.{Accept, Reject, Release, Reattach, Started, Closed, Synchronised, Refused}
 use Rattle.calls.specs.declared.reply.FollowUps.{FollowUps}
@@ -33,6 +33,8 @@ refusalNumber AlreadyOpen = 5
 refusalNumber NoBearer = 6
 refusalNumber BearerBusy = 7
 refusalNumber StatusLength = 12
+refusalNumber UnknownMessage = 15
+refusalNumber MessageFraming = 16
 
 -- 0 where nothing is refused
 abbrev pub numberOf : Answer → ℕ

@@ -15,7 +15,7 @@ pub enum Cause {
     Transaction,
 }
 
-// 1, 3, 4, 5, 6 and 7 of document 01, and 12 of document 02.
+// 1, 3, 4, 5, 6 and 7 of document 01, and 12, 15 and 16 of document 02.
 pub enum Refusal {
     NotWellFormed,
     NotOpen,
@@ -24,6 +24,8 @@ pub enum Refusal {
     NoBearer,
     BearerBusy,
     StatusLength,
+    UnknownMessage,
+    MessageFraming,
 }
 
 // Accept and Reject are sent; of the others no reply is.
@@ -78,6 +80,8 @@ fn refusal_number(refusal: Refusal) -> u8
         Refusal::NoBearer => 6,
         Refusal::BearerBusy => 7,
         Refusal::StatusLength => 12,
+        Refusal::UnknownMessage => 15,
+        Refusal::MessageFraming => 16,
     }
 }
 

@@ -1,14 +1,15 @@
 -- DEMAND 1. Every table, message, header and byte string gets an answer from document 01's list. A refusal gives its number and leaves the table
 -- and lent bytes unchanged (a transaction matched at step 2 is still closed). No caller has to check first.
 -- Assumes nothing.
-use mathlib.Core.Path.{_≡_, refl, _∙_, ap}
+use mathlib.Core.Path.{_≡_, refl, _∙_, ap, subst}
 use mathlib.Core.Bool.{Bool, true, false}
 use mathlib.Core.List.{List, [], _∷_, _++_}
-use Prim.Native.Nat.{ℕ}
+use Prim.Native.Nat.{ℕ, _+_, _≤_}
 use lib.Dec.{leb}
 use lib.ListN.{length}
 use Rattle.laws.specs.Lists.{isIn}
 use Rattle.laws.proofs.Says.{picked}
+use Rattle.laws.proofs.Joined.{in-holds}
 use Rattle.filter.specs.declared.packet.Header.{Header}
 use Rattle.element.specs.declared.answer.Cause.{Cause}
 use Rattle.element.specs.declared.answer.Cause.the-variants.{Operation, Semantics, Coding}
@@ -35,11 +36,13 @@ use Rattle.table.specs.declared.bearer.Table.{Table}
 use Rattle.table.specs.Ranges.{TableInRange}
 use Rattle.table.specs.WellFormed.{wellFormed}
 use Rattle.calls.specs.declared.reply.Cause.the-variants.{TftSemantics, TftSyntax, BearerIdentity, FilterSemantics, FilterSyntax, Transaction}
-use Rattle.calls.specs.declared.reply.Refusal.the-variants.{NotWellFormed as notWellFormed, NotOpen, NoIdentity, AlreadyOpen, NoBearer, BearerBusy, StatusLength}
+use Rattle.calls.specs.declared.reply.Refusal.the-variants.{NotWellFormed as notWellFormed, NotOpen, NoIdentity, AlreadyOpen, NoBearer, BearerBusy, StatusLength, UnknownMessage, MessageFraming}
 use Rattle.calls.specs.declared.reply.Answer.{Answer as CallAnswer}
 use Rattle.calls.specs.declared.reply.Answer.the-variants.{Accept, Reject, Release, Reattach, Started, Closed, Synchronised, Refused as callRefused}
-use Rattle.calls.specs.Reply.{numberOf as callNumber}
-use Rattle.calls.specs.Modify.{malformed}
+use Rattle.calls.specs.declared.reply.Outcome.{Outcome}
+use Rattle.calls.specs.Reply.{numberOf as callNumber, answered}
+use Rattle.calls.specs.Modify.{malformed, modifyOf}
+use Rattle.calls.specs.Others.{activateDedicatedOf, deactivateOf, rejectOf}
 use Rattle.calls.specs.Changes.{Sound, RefusalLeaves, Gives, MatchClosed}
 use Rattle.calls.specs.Checks.{Open, LeftBy}
 use Rattle.calls.proofs.Closing.{modify-match, activate-match, left-says}
@@ -50,13 +53,56 @@ use Rattle.status.specs.declared.write.StatusWritten.the-variants.{Wrote as wro
 use Rattle.status.specs.Write.{statusNumber, writeStatusOf}
 use Rattle.status.proofs.Taking.{synchronise-malformed}
 use Rattle.status.proofs.Theorems.{status-leaves, synchronise-gives, synchronise-refused}
+use Rattle.messages.specs.declared.layout.Kind.{Kind}
+use Rattle.messages.specs.declared.layout.Kind.the-variants.{DedicatedRequest, DedicatedAccept, DedicatedReject, ModifyRequest, ModifyAccept}
+use Rattle.messages.specs.declared.layout.Kind.the-variants.{ModifyReject, DeactivateRequest, DeactivateAccept, ModificationReject}
+use Rattle.messages.specs.declared.layout.Fault.{Fault}
+use Rattle.messages.specs.declared.layout.Fault.the-variants.{Unknown, Framing}
+use Rattle.messages.specs.declared.layout.Tft.{Tft}
+use Rattle.messages.specs.declared.layout.Tft.the-variants.{At}
+use Rattle.messages.specs.declared.layout.Message.{Message as WholeMessage}
+use Rattle.messages.specs.declared.layout.Parsed.{Parsed}
+use Rattle.messages.specs.declared.layout.Parsed.the-variants.{Read, Refused as refusedFor}
+use Rattle.messages.specs.declared.write.MessageWritten.{MessageWritten}
+use Rattle.messages.specs.declared.write.MessageWritten.the-variants.{Wrote as wroteMessage, Unreadable, NoRoom as messageNoRoom}
+use Rattle.messages.specs.Read.{parsedNumber, readOf, Octets, none, those, Fields, Said, unread, says}
+use Rattle.messages.specs.Write.{writable, valueOf, octetsOf as messageOctets, messageNumber, MessageOutcome, writeOf as writeMessageOf}
+use Rattle.messages.specs.Handle.{askedBy, refusalOf, refusedOf, callBy, handledBy, handleOf}
+use Rattle.messages.specs.inner.Walk.{Inside}
+use Rattle.messages.proofs.Inside.{tft-inside}
+use Rattle.messages.proofs.Accepting.{no-operation}
+use Rattle.messages.proofs.Carried.{carried}
 use Rattle.route.specs.declared.answer.Answer.{Answer as RouteAnswer}
 use Rattle.route.specs.declared.answer.Answer.the-variants.{Routed, Refused as routeRefused}
 use Rattle.route.specs.declared.answer.Refusal.the-variants.{NotWellFormed, NoDefault, InvalidHeader}
 use Rattle.route.specs.Routes.{numberOf as routeNumber, routeOf}
-use Rattle.promises.specs.Calls.{Call, activateDefault, activateDedicated, modify, deactivate, reject, start, synchronise, outcomeOf, matchedIn, leftBy}
+use Rattle.promises.specs.Calls.{Call, activateDefault, activateDedicated, modify, deactivate, reject, start, synchronise, handle, outcomeOf, matchedIn, leftByKind, leftBySaid, leftBy}
 use Rattle.promises.specs.Messages.{Message, modifies, activates, transactionOf, withoutTransaction, handled}
-use Rattle.promises.specs.Calls.{numbersOf, readerNumbers, writerNumbers, replyNumbers, routeNumbers, statusNumbers, portionNumbers}
+use Rattle.promises.specs.Calls.{numbersOf, readerNumbers, writerNumbers, replyNumbers, routeNumbers, statusNumbers, portionNumbers, messageNumbers, parsedNumbers, assembledNumbers}
+
+-- a message that is handled has the numbers of the calls, and its own refusals
+message-answers : (t : Table) (message : List ℕ) → Gives (numbersOf (handle message)) (handleOf t message .outcome)
+unfolding isIn
+message-answers t message =
+    carried t (Gives numbers)
+    (λ fault. picked (Gives numbers) (wellFormed t) _ _ (by fault) refl)
+    (λ bearer link x value. in-holds Among messageNumbers (refl, (refl, (refl, (refl, (refl, (refl, (refl, (refl, tt)))))))) (number (activateDedicatedOf t bearer link x value)) (activate-dedicated-gives t bearer link x value))
+    (λ bearer x value. in-holds Among messageNumbers (refl, (refl, (refl, (refl, (refl, (refl, (refl, (refl, tt)))))))) (number (modifyOf t bearer x value)) (modify-gives t bearer x value))
+    (λ bearer x. in-holds Among (0 ∷ 1 ∷ []) (refl, (refl, tt)) (number (deactivateOf t bearer x)) (deactivate-gives t bearer x))
+    (λ x why. in-holds Among (0 ∷ 1 ∷ 3 ∷ []) (refl, (refl, (refl, tt))) (number (rejectOf t x why)) (reject-gives t x why)) message
+  where
+    numbers : List ℕ
+    numbers = numbersOf (handle message)
+
+    Among : ℕ → Type 0
+    Among n = isIn n numbers ≡ true
+
+    number : Outcome → ℕ
+    number o = callNumber (o .reply .answer)
+
+    by : (fault : Fault) → Gives numbers (answered t (callRefused (refusalOf fault)))
+    by Unknown = refl
+    by Framing = refl
 
 -- "Every table, message .. gets an answer from document 01's list": of the numbers given, those of the call
 pub call-answers : (t : Table) (c : Call) → Gives (numbersOf c) (outcomeOf t c)
@@ -67,6 +113,7 @@ call-answers t (deactivate bearer transaction) = deactivate-gives t bearer trans
 call-answers t (reject transaction cause) = reject-gives t transaction cause
 call-answers t (start transaction bearer) = start-gives t transaction bearer
 call-answers t (synchronise value) = synchronise-gives t value
+call-answers t (handle message) = message-answers t message
 
 -- ---- "an answer from document 01's list": every value of an answer's type has a number of the list, so no function that gives an answer, or the number
 -- of one, gives any other
@@ -118,6 +165,8 @@ reply-numbers (callRefused AlreadyOpen) = refl
 reply-numbers (callRefused NoBearer) = refl
 reply-numbers (callRefused BearerBusy) = refl
 reply-numbers (callRefused StatusLength) = refl
+reply-numbers (callRefused UnknownMessage) = refl
+reply-numbers (callRefused MessageFraming) = refl
 
 pub routed-numbers : (a : RouteAnswer) → isIn (routeNumber a) routeNumbers ≡ true
 unfolding isIn
@@ -185,6 +234,53 @@ writer-answers e buffer = written-numbers (writeOf e buffer .written)
 pub status-answers : (t : Table) (buffer : List ℕ) → isIn (statusNumber (writeStatusOf t buffer .written)) statusNumbers ≡ true
 status-answers t buffer = status-written-numbers (writeStatusOf t buffer .written)
 
+-- .. and the reader of a message, whatever the octets, and its writer
+pub parsed-numbers : (p : Parsed) → isIn (parsedNumber p) parsedNumbers ≡ true
+unfolding isIn
+parsed-numbers (Read m) = refl
+parsed-numbers (refusedFor Unknown) = refl
+parsed-numbers (refusedFor Framing) = refl
+
+pub message-reader-answers : (message : List ℕ) → isIn (parsedNumber (readOf message)) parsedNumbers ≡ true
+message-reader-answers message = parsed-numbers (readOf message)
+
+-- .. which reads nothing past the end: the TFT that it tells of lies in the message
+pub message-tft-inside : (message : List ℕ) (m : WholeMessage) (from n : ℕ) → readOf message ≡ Read m → m .tft ≡ At from n → from + n ≤ length message
+message-tft-inside message m from n e a = subst (λ (tft : Tft). Inside tft message) a (tft-inside message m e)
+
+pub assembled-numbers : (w : MessageWritten) → isIn (messageNumber w) assembledNumbers ≡ true
+unfolding isIn
+assembled-numbers (wroteMessage n) = refl
+assembled-numbers Unreadable = refl
+assembled-numbers messageNoRoom = refl
+
+pub message-writer-answers : (f : Fields) (buffer : List ℕ) → isIn (messageNumber (writeMessageOf f buffer .written)) assembledNumbers ≡ true
+message-writer-answers f buffer = assembled-numbers (writeMessageOf f buffer .written)
+
+-- of a message: as the call that it makes leaves it
+message-leaves : (t : Table) (message : List ℕ) → RefusalLeaves (leftBySaid (askedBy message) t) (handleOf t message .outcome)
+unfolding handleOf
+message-leaves t message = by (askedBy message)
+  where
+    not-asked : (fault : Fault) → RefusalLeaves t (refusedOf fault t)
+    not-asked fault = picked (RefusalLeaves t) (wellFormed t) _ _ (λ r. refl) (λ r. refl)
+
+    by-kind : (kind : Kind) (tft : Octets) (bearer x : ℕ) → RefusalLeaves (leftByKind kind t x) (callBy kind tft t bearer x)
+    by-kind (DedicatedRequest link) tft bearer x = activate-dedicated-refused t bearer link x (valueOf tft)
+    by-kind ModifyRequest none bearer x = subst (RefusalLeaves (matchedIn t x)) (no-operation t bearer x) (modify-refused t bearer x (0xC0 ∷ []))
+    by-kind ModifyRequest (those value) bearer x = modify-refused t bearer x value
+    by-kind (DeactivateRequest why) tft bearer x = deactivate-refused t bearer x
+    by-kind (ModificationReject why) tft bearer x = reject-refused t x why
+    by-kind DedicatedAccept tft bearer x = not-asked Unknown
+    by-kind (DedicatedReject why) tft bearer x = not-asked Unknown
+    by-kind ModifyAccept tft bearer x = not-asked Unknown
+    by-kind (ModifyReject why) tft bearer x = not-asked Unknown
+    by-kind DeactivateAccept tft bearer x = not-asked Unknown
+
+    by : (s : Said) → RefusalLeaves (leftBySaid s t) (handledBy s t .outcome)
+    by (unread fault) = not-asked fault
+    by (says f) = by-kind (f .kind) (f .tft) (f .bearer) (f .transaction)
+
 -- "A refusal gives its number and leaves the table .. unchanged (a transaction matched at step 2 is still closed)"
 pub refusal-leaves : (t : Table) (c : Call) → RefusalLeaves (leftBy t c) (outcomeOf t c)
 refusal-leaves t (activateDefault bearer) = activate-default-refused t bearer
@@ -194,6 +290,7 @@ refusal-leaves t (deactivate bearer transaction) = deactivate-refused t bearer t
 refusal-leaves t (reject transaction cause) = reject-refused t transaction cause
 refusal-leaves t (start transaction bearer) = start-refused t transaction bearer
 refusal-leaves t (synchronise value) = synchronise-refused t value
+refusal-leaves t (handle message) = message-leaves t message
 
 -- "A match is closed, whatever follows", of a message that is refused or is not: no bearer has the transaction open afterwards, and closing changed
 -- nothing else, since what follows is what the message does without a transaction in a table that is the same but for it
@@ -215,6 +312,8 @@ malformed-leaves t (deactivate bearer transaction) e = deactivate-malformed t e 
 malformed-leaves t (reject transaction cause) e = reject-malformed t e transaction cause
 malformed-leaves t (start transaction bearer) e = start-malformed t e transaction bearer
 malformed-leaves t (synchronise value) e = synchronise-malformed t value e
+malformed-leaves t (handle message) e =
+    carried t (λ (o : Outcome). o ≡ malformed t) (λ fault. rw e) (activate-dedicated-malformed t e) (modify-malformed t e) (deactivate-malformed t e) (reject-malformed t e) message
 
 -- document 02, 2/14: "A refused portion or finish leaves everything fed before as it stood", to the octet
 pub portions-leave : (p : Portions) (portion : List ℕ) → numberAt p (feed portion) ≡ 13 → feedOf p portion .state ≡ p
@@ -245,3 +344,11 @@ writer-leaves e buffer = go (given e) (leb (length (octetsOf e)) 255) (leb (leng
 
 pub status-writing-leaves : (t : Table) (buffer : List ℕ) → (statusNumber (writeStatusOf t buffer .written) ≡ 0 → ⊥) → writeStatusOf t buffer .buffer ≡ buffer
 status-writing-leaves = status-leaves
+
+pub message-writing-leaves : (f : Fields) (buffer : List ℕ) → (messageNumber (writeMessageOf f buffer .written) ≡ 0 → ⊥) → writeMessageOf f buffer .buffer ≡ buffer
+unfolding writeMessageOf
+message-writing-leaves f buffer =
+    picked Leaves (writable f) _ _ (picked Leaves (leb (length (messageOctets f)) (length buffer)) _ _ (λ r. absurd (r refl)) (λ r. refl)) (λ r. refl)
+  where
+    Leaves : MessageOutcome → Type 0
+    Leaves o = (messageNumber (o .written) ≡ 0 → ⊥) → o .buffer ≡ buffer

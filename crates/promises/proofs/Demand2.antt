@@ -2,14 +2,14 @@
 -- and read again is the same; cause 44 exactly when some well-coded filter fits no packet.
 -- That a function's outcome is its definition's is the function's contract; crates/*/specs has the definitions, under the sentences that they write down.
 -- Assumes nothing.
-use mathlib.Core.Path.{_≡_, sym}
+use mathlib.Core.Path.{_≡_, sym, _∙_}
 use mathlib.Core.Logic.{_⊎_, ⊎-elim, _↔_}
 use mathlib.Core.Bool.{Bool, true, false}
 use mathlib.Core.List.{List, [], _∷_, _++_, map, flatten}
 use Prim.Native.Nat.{ℕ, _<_, _≤_}
-use lib.ListN.{length, take, drop}
+use lib.ListN.{length, take, drop, getD}
 use Rattle.laws.specs.Says.{Says}
-use Rattle.laws.specs.Lists.{All}
+use Rattle.laws.specs.Lists.{All, isIn}
 use Rattle.filter.specs.declared.component.Filter.{Filter}
 use Rattle.filter.specs.declared.packet.Header.{Header}
 use Rattle.filter.specs.declared.component.Protocol.the-variants.{Absent as noProtocol, Is as isProtocol}
@@ -45,12 +45,13 @@ use Rattle.table.specs.WellFormed.{wellFormed, WellFormed, WellBy}
 use Rattle.table.proofs.Meaning.{well-says}
 use Rattle.table.proofs.Rules.{well-more}
 use Rattle.calls.specs.declared.reply.Answer.the-variants.{Accept}
-use Rattle.calls.specs.Changes.{FollowUpList, Releases, NamedBearer}
+use Rattle.calls.specs.Changes.{FollowUpList, Releases, NamedBearer, SendsReply}
 use Rattle.calls.specs.Reply.{numberOf}
 use Rattle.calls.proofs.Checks.{modify-numbers, activate-numbers, activate-default-numbers, deactivate-numbers, reject-numbers, start-numbers}
 use Rattle.calls.proofs.Release.{modify-releases, activate-releases, modify-follow, activate-follow}
 use Rattle.calls.proofs.Named.{modify-named-bearer, activate-named-bearer}
-use Rattle.calls.specs.declared.reply.Answer.the-variants.{Synchronised}
+use Rattle.calls.specs.declared.reply.Refusal.the-variants.{UnknownMessage}
+use Rattle.calls.specs.declared.reply.Answer.the-variants.{Synchronised, Refused}
 use Rattle.calls.specs.Reply.{answered}
 use Rattle.calls.specs.Checks.{Identity, Active}
 use Rattle.status.specs.declared.write.StatusWritten.the-variants.{Wrote as wroteStatus}
@@ -59,8 +60,25 @@ use Rattle.status.specs.Write.{statusNumber, writeStatusOf, StatusNumbered}
 use Rattle.status.specs.Take.{synchroniseOf, StatusTaken}
 use Rattle.status.proofs.Theorems.{written-shows, status-written, status-numbers, synchronise-numbers, synchronise-takes, own-status, synchronise-again, spare-ignored}
 use Rattle.status.proofs.Examples.{Examples, examples}
+use Rattle.messages.specs.declared.layout.Kind.{Kind}
+use Rattle.messages.specs.declared.layout.Kind.the-variants.{DedicatedRequest, ModifyRequest, DeactivateRequest, ModificationReject}
+use Rattle.messages.specs.declared.layout.Fault.{Fault}
+use Rattle.messages.specs.declared.write.MessageWritten.the-variants.{Wrote as wroteMessage}
+use Rattle.messages.specs.declared.handle.Sending.the-variants.{Silent, Sends}
+use Rattle.messages.specs.Layout.{headOctets, typeOf}
+use Rattle.messages.specs.Read.{parsedNumber, readOf, none as noTft, those, Fields, unread, says, saidOf}
+use Rattle.messages.specs.Write.{messageNumber, writeOf as writeMessageOf}
+use Rattle.messages.specs.Handle.{replyTypes, askedBy, acceptOf, sendingOf, handleOf}
+use Rattle.messages.specs.Meaning.{Ours, ReadNumbered, Composed, Skipped, FieldsInRange, WriteNumbered, AnswerReads, ReadsAs as SentAs}
+use Rattle.messages.proofs.Accepting.{no-operation}
+use Rattle.messages.proofs.Examples.{Examples as MessageExamples, examples as examplesOfMessages}
+use Rattle.messages.proofs.Exactly.{reads-exactly, framing-exactly, handle-numbers}
+use Rattle.messages.proofs.RoundTrip.{written-back, write-numbers, written-stays}
+use Rattle.messages.proofs.Skipping.{skipped-changes-nothing, skipped-handled, skipped-alike}
+use Rattle.messages.proofs.Theorems.{read-numbers as message-numbers-read, asked-said, said-asked, message-modifies, message-accepts, message-activates, message-deactivates, message-rejects}
+use Rattle.messages.proofs.Theorems.{activation-has-tft, reply-refused, answer-sent, answer-reads, refused-silent}
 use Rattle.promises.specs.Messages.{Message, modifies, activates, bearerNamed, transactionOf, valueOf, handled, numberGiven, Passes, MessageNumbered, CallNumbered, connectionFor, roleFor}
-use Rattle.promises.specs.Calls.{Call, activateDefault, activateDedicated, modify, deactivate, reject, start, synchronise, outcomeOf}
+use Rattle.promises.specs.Calls.{Call, activateDefault, activateDedicated, modify, deactivate, reject, start, synchronise, handle, outcomeOf}
 use Rattle.route.specs.Routes.{numberOf as routeNumber, routeOf}
 use Rattle.route.specs.declared.answer.Route.{Route}
 use Rattle.route.specs.declared.answer.Answer.the-variants.{Routed}
@@ -87,6 +105,7 @@ numbers-given t r (deactivate bearer transaction) = deactivate-numbers t r beare
 numbers-given t r (reject transaction cause) = reject-numbers t r transaction cause
 numbers-given t r (start transaction bearer) = start-numbers t r transaction bearer
 numbers-given t r (synchronise value) = synchronise-numbers t value r
+numbers-given t r (handle message) = handle-numbers t r message
 
 pub route-numbers-given : (t : Table) → TableInRange t → (default : ℕ) (h : Header) → RouteNumbered t default h (routeNumber (routeOf t default h))
 route-numbers-given t r default h = route-numbers t default h r
@@ -315,3 +334,96 @@ route-given-stays t k w default d h v case r =
     let same = ⊎-elim (λ n. routes-stay t default h n r) (λ none. sctp-routes-stay t default h none r) case in
     let given = route-says t default h k w d v r in
     (λ e. same .1 (given .0 e), λ x. given .1 (same .0 x))
+
+-- ---- Of whole messages, document 02, 5/14
+-- "What our writer produces reads back the same."
+pub messages-read-back : (f : Fields) (buffer : List ℕ) (n : ℕ) → writeMessageOf f buffer .written ≡ wroteMessage n
+    → saidOf (take n (writeMessageOf f buffer .buffer)) ≡ says f
+messages-read-back = written-back
+
+-- "Octets after those written stay"
+pub messages-others-stay : (f : Fields) (buffer : List ℕ) (n : ℕ) → writeMessageOf f buffer .written ≡ wroteMessage n
+    → drop n (writeMessageOf f buffer .buffer) ≡ drop n buffer
+messages-others-stay = written-stays
+
+-- "The writer gives 15 for a message that cannot be read back, then 9": 15 exactly where no octets, however many, read as the message
+pub messages-written : (f : Fields) → FieldsInRange f → (buffer : List ℕ) → WriteNumbered f buffer (messageNumber (writeMessageOf f buffer .written))
+messages-written = write-numbers
+
+-- "16 under three octets; 15 for another discriminator or type .. 16 for framing, an unlisted element or a second TFT"
+pub messages-read : (message : List ℕ) → ReadNumbered message (parsedNumber (readOf message))
+messages-read = message-numbers-read
+
+-- "QoS and optional elements other than the TFT are framed as that standard lists them": octets say a message exactly where they are its parts, one after the other
+-- (`Composed`); and "16 for framing" exactly where they are no message's
+pub messages-composed : (message : List ℕ) (f : Fields) → (saidOf message ≡ says f) ↔ Composed f message
+messages-composed = reads-exactly
+
+pub messages-framing : (message : List ℕ)
+    → (parsedNumber (readOf message) ≡ 16) ↔ ((length message < headOctets) ⊎ ((headOctets ≤ length message) × (Ours message × ((f : Fields) → Composed f message → ⊥))))
+messages-framing = framing-exactly
+
+-- ".. and skipped": where a message reads, after any octets that it begins with
+-- and that are a message by themselves, one element more that is listed, whatever it holds, changes nothing of what the octets say, whatever octets follow; nor of
+-- what is done and answered
+pub messages-skip : (front e tail : List ℕ) (f : Fields) → saidOf front ≡ says f → Skipped (f .kind) e → saidOf (front ++ (e ++ tail)) ≡ saidOf (front ++ tail)
+messages-skip = skipped-changes-nothing
+
+pub messages-skip-handled : (front e tail : List ℕ) (f : Fields) → saidOf front ≡ says f → Skipped (f .kind) e
+    → (t : Table) → handleOf t (front ++ (e ++ tail)) ≡ handleOf t (front ++ tail)
+messages-skip-handled = skipped-handled
+
+-- so two messages that differ in skipped elements alone say the same
+pub messages-alike : (front tail : List ℕ) (f : Fields) → saidOf front ≡ says f → (es fs : List (List ℕ)) → All (Skipped (f .kind)) es → All (Skipped (f .kind)) fs
+    → saidOf (front ++ (flatten es ++ tail)) ≡ saidOf (front ++ (flatten fs ++ tail))
+messages-alike = skipped-alike
+
+-- a message is handled exactly as the call of its fields, on any table, so that every promise on the calls is one on messages; those over `Call` are said of both.
+-- "A modify without a TFT is accepted after steps 1 to 3 and changes nothing but a closed transaction": it is as one with no operation
+module _ (t : Table) (message : List ℕ) (f : Fields) (asked : askedBy message ≡ says f) where
+  pub whole-modify : (value : List ℕ) → f .kind ≡ ModifyRequest → f .tft ≡ those value → handleOf t message .outcome ≡ outcomeOf t (modify (f .bearer) (f .transaction) value)
+  whole-modify = message-modifies t message f asked
+
+  pub whole-modify-without : f .kind ≡ ModifyRequest → f .tft ≡ noTft
+      → (handleOf t message .outcome ≡ acceptOf t (f .bearer) (f .transaction)) × (handleOf t message .outcome ≡ outcomeOf t (modify (f .bearer) (f .transaction) (0xC0 ∷ [])))
+  whole-modify-without k n =
+      let e = message-accepts t message f asked k n in
+      (e, e ∙ sym (no-operation t (f .bearer) (f .transaction)))
+
+  pub whole-dedicated : (link : ℕ) (value : List ℕ) → f .kind ≡ DedicatedRequest link → f .tft ≡ those value
+      → handleOf t message .outcome ≡ outcomeOf t (activateDedicated (f .bearer) link (f .transaction) value)
+  whole-dedicated = message-activates t message f asked
+
+  pub whole-deactivate : (why : ℕ) → f .kind ≡ DeactivateRequest why → handleOf t message .outcome ≡ outcomeOf t (deactivate (f .bearer) (f .transaction))
+  whole-deactivate = message-deactivates t message f asked
+
+  pub whole-reject : (why : ℕ) → f .kind ≡ ModificationReject why → handleOf t message .outcome ≡ outcomeOf t (reject (f .transaction) why)
+  whole-reject = message-rejects t message f asked
+
+  -- the answer's octets read as the accept or the reject that the reply is, with the bearer's identity as received, and 0 for the transaction; none are sent where the
+  -- reply is neither
+  pub whole-answer : All Octet message → AnswerReads (f .kind) (handleOf t message .outcome .reply .answer) (handleOf t message .answer)
+  whole-answer = answer-reads t message f asked
+
+  pub whole-answered : SendsReply (handleOf t message .outcome .reply .answer) → (reply : Kind) × (sendingOf (f .kind) (handleOf t message .outcome .reply .answer) ≡ Sends reply)
+  whole-answered = answer-sent t message f asked
+
+-- a dedicated request always has its TFT
+pub whole-dedicated-tft : (message : List ℕ) (f : Fields) (link : ℕ) → saidOf message ≡ says f → f .kind ≡ DedicatedRequest link → (value : List ℕ) × (f .tft ≡ those value)
+whole-dedicated-tft = activation-has-tft
+
+-- what is asked is what the octets say, but for the replies: "15 .. for a reply type (C6, C7, CA, CB, CE) where a message is handled"
+pub whole-asked : (message : List ℕ) (f : Fields) → isIn (typeOf (f .kind)) replyTypes ≡ false → (askedBy message ≡ says f) ↔ (saidOf message ≡ says f)
+whole-asked message f n = (asked-said message f, said-asked message f n)
+
+pub whole-replies : (t : Table) (message : List ℕ) → wellFormed t ≡ true → isIn (getD message 2 0) replyTypes ≡ true
+    → handleOf t message .outcome ≡ answered t (Refused UnknownMessage)
+whole-replies = reply-refused
+
+-- and to a message that is refused itself nothing is sent
+pub whole-refused : (t : Table) (message : List ℕ) (fault : Fault) → askedBy message ≡ unread fault → SentAs Silent 0 (handleOf t message .answer)
+whole-refused = refused-silent
+
+-- kinds, framings, offsets, refusals and answers, computed
+pub message-examples : MessageExamples
+message-examples = examplesOfMessages

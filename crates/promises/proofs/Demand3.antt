@@ -7,14 +7,18 @@ use mathlib.Core.Logic.{_↔_}
 use mathlib.Core.List.{List, [], _∷_}
 use Prim.Native.Nat.{ℕ, _<_}
 use native.Mathlib.Omega.{arith}
+use lib.ListN.{drop}
 use Rattle.laws.specs.Index.{allBelow}
 use Rattle.laws.specs.Lists.{All}
 use Rattle.laws.proofs.Lists.{each-replicate}
+use Rattle.laws.proofs.Parts.{all-take, all-drop}
+use Rattle.laws.proofs.Says.{picked}
 use Rattle.filter.specs.declared.packet.Header.{Header}
 use Rattle.filter.specs.Ranges.{FilterInRange}
 use Rattle.filter.proofs.Ranges.{nothing-in-range}
 use Rattle.filter.specs.Coding.{held, emptyPlace}
 use Rattle.filter.specs.Fit.{validHeader}
+use Rattle.element.specs.Meaning.{Octet}
 use Rattle.element.specs.Read.{readElement}
 use Rattle.table.specs.declared.bearer.Table.{Table}
 use Rattle.filter.specs.Sizes.{placeCount}
@@ -23,17 +27,19 @@ use Rattle.table.specs.Bearers.{bearerCount, identityOf, emptyTable, filterAt, 
 use Rattle.table.specs.Ranges.{BearerInRange, TableInRange}
 use Rattle.table.specs.WellFormed.{filterFine, bearerFine, transactionsApart, transactionFrom, distinctTransactions, distinctAt, distinctPrecedences, wellFormed, Held}
 use Rattle.table.proofs.Meaning.{well-says}
+use Rattle.calls.specs.declared.reply.Outcome.{Outcome}
 use Rattle.calls.specs.Changes.{Sound, Unnamed}
 use Rattle.calls.proofs.Whole.{activate-default-sound, activate-dedicated-sound, modify-sound, deactivate-sound, reject-sound, start-sound}
 use Rattle.calls.proofs.Release.{modify-unnamed, activate-unnamed}
 use Rattle.status.proofs.Theorems.{synchronise-sound}
+use Rattle.messages.proofs.Carried.{carried-over}
 use Rattle.route.specs.declared.answer.Route.{Route}
 use Rattle.route.specs.declared.answer.Answer.the-variants.{Routed}
 use Rattle.route.specs.Lists.{listOf}
 use Rattle.route.specs.Routes.{routeOn, routeOf}
 use Rattle.route.specs.Rule.{Right}
 use Rattle.route.proofs.Theorems.{route-right, right-one, route-says}
-use Rattle.promises.specs.Calls.{Call, activateDefault, activateDedicated, modify, deactivate, reject, start, synchronise, Sent, outcomeOf, run, reached}
+use Rattle.promises.specs.Calls.{Call, activateDefault, activateDedicated, modify, deactivate, reject, start, synchronise, handle, Sent, outcomeOf, run, reached}
 use Rattle.promises.specs.Messages.{Message, modifies, activates, bearerNamed, transactionOf, valueOf, handled, connectionFor}
 
 -- ---- "After any sequence of calls from the empty table", refused ones among them, the table is well formed
@@ -57,6 +63,10 @@ call-sound t k (deactivate bearer transaction) s = deactivate-sound t k bearer t
 call-sound t k (reject transaction cause) s = reject-sound t k transaction cause
 call-sound t k (start transaction bearer) s = start-sound t k transaction bearer s
 call-sound t k (synchronise value) s = synchronise-sound t value k
+call-sound t k (handle message) s =
+    carried-over t (All Octet) (λ (o : Outcome). Sound (o .table)) (λ fault. picked (λ (o : Outcome). Sound (o .table)) (wellFormed t) _ _ k k)
+    (activate-dedicated-sound t k) (modify-sound t k) (deactivate-sound t k) (reject-sound t k)
+    message tt (omega arith, tt) (λ n m. all-take Octet n (drop m message) (all-drop Octet m message s))
 
 run-sound : (t : Table) → Sound t → (cs : List Call) → All Sent cs → Sound (run t cs)
 unfolding run

@@ -51,6 +51,9 @@ use Rattle.calls.specs.Modify.{deletedFilters, deletedTft, modifyRead, modifyNa
 use Rattle.calls.specs.Others.{activateDefaultOf, activateRead, activateNamed, activateDedicatedOf, deactivateOf, rejectOf, startOf}
 use Rattle.status.specs.Value.{shownActive}
 use Rattle.status.specs.Take.{goneBy, synchroniseOf}
+use Rattle.messages.specs.Layout.{kindOf, formIn}
+use Rattle.messages.specs.Read.{elements, activationStart, readOf}
+use Rattle.messages.specs.Handle.{requestOf, acceptOf, handleOf}
 use Rattle.route.specs.declared.answer.Route.{Route}
 use Rattle.route.specs.declared.answer.Route.the-variants.{Bearer}
 use Rattle.route.specs.declared.answer.Answer.{Answer as RouteAnswer}
@@ -58,7 +61,7 @@ use Rattle.route.specs.declared.answer.Answer.the-variants.{Routed}
 use Rattle.route.specs.Lists.{isUplink, placeHas, bearerHas, entryIn, entryAt, entriesOf}
 use Rattle.route.specs.Routes.{filterOf, entryFits, firstFit, uplinkAt, hasUplink, otherwiseOf, routeOn, routeOf}
 use Rattle.route.specs.Rule.{OwnUplink, FittingBy, RightBy, byFilter, byDefault, discarded}
-use Rattle.promises.specs.Calls.{Call, activateDefault, activateDedicated, modify, deactivate, reject, start, synchronise, outcomeOf, run, replies, reached}
+use Rattle.promises.specs.Calls.{Call, activateDefault, activateDedicated, modify, deactivate, reject, start, synchronise, handle, outcomeOf, run, replies, reached}
 
 -- ---- Tables and filters of the samples
 -- bearers 5, 6, .. in these roles, the others idle; no transaction is open
@@ -197,7 +200,7 @@ sampleElements =
 abbrev Samples : Type 0
 Samples = map shown sampleElements ≡ map due sampleElements
 
--- ---- A sequence of calls from the empty table, refused ones among them. Each of the seven kinds is called twice or more, with different replies, so that
+-- ---- A sequence of calls from the empty table, refused ones among them. Each of the eight kinds is called twice or more, with different replies, so that
 -- none may refuse everything or always reply the same
 -- a call, and what it is to reply
 pub data Turn : Type 0 where
@@ -245,6 +248,14 @@ ending =
     ∷ turn (start 9 9) (starts 9) []
     ∷ turn (synchronise (0x80 ∷ [])) (refuses 12) []
     ∷ turn (synchronise (0x9F ∷ 0x00 ∷ [])) synchronises []
+    -- whole messages: 8 is activated, linked to 7; "15 .. for a reply type", whatever follows it; "16 for framing"; "A modify without a TFT is accepted", here with
+    -- an element that is skipped; "A TFT of length 0 gets step 4's 42"; and 8 is deactivated
+    ∷ turn (handle (0x82 ∷ 0x00 ∷ 0xC5 ∷ 0x07 ∷ 0x01 ∷ 0x09 ∷ 0x09 ∷ sip)) (accepts 8) []
+    ∷ turn (handle (0x82 ∷ 0x00 ∷ 0xCA ∷ 0x36 ∷ [])) (refuses 15) []
+    ∷ turn (handle (0x82 ∷ 0x00 ∷ 0xC9 ∷ 0x36 ∷ [])) (refuses 16) []
+    ∷ turn (handle (0x82 ∷ 0x00 ∷ 0xC9 ∷ 0x7B ∷ 0x00 ∷ 0x01 ∷ 0x36 ∷ [])) (accepts 8) []
+    ∷ turn (handle (0x82 ∷ 0x00 ∷ 0xC9 ∷ 0x36 ∷ 0x00 ∷ [])) (rejects 8 42) []
+    ∷ turn (handle (0x82 ∷ 0x00 ∷ 0xCD ∷ 0x24 ∷ [])) (accepts 8) []
     ∷ []
 
 -- version 4, of this protocol, with these ports
@@ -284,7 +295,7 @@ SctpRoutes =
 
 -- ---- All are computed, by opening the definitions that they are said in
 computed : Samples × Sequence × SctpRoutes
-unfolding allBelow anyBelow picks tab pad every isIn repeats sameUnder beFrom excluded added held wellCoded emptyPlace validHeader agreesNetwork fits sample fittable lengthOf componentOf contentsFrom contentsOf splitOf parameters restFits framedBy framedOf noFilters noMarks codedOf elementEntries twice inPlaces marked readValue readElement filterFine bearerFine transactionsApart transactionFrom distinctTransactions joined rowPrecedences connectionPrecedences distinctAt distinctPrecedences wellFormed opensAt isOpen closed ofConnection deletedIn holdsIn staysIn empties old takenBy takes conflict placed conflictIn loses placedIn losesAt conflictOnDefault follows released followers otherAt onlyConnection layWithin layOf headFine deletedFilters deletedTft modifyRead modifyNamed modifyOf dropped isAt ownerOf run replies emptyTable activateDefaultOf activateRead activateNamed activateDedicatedOf deactivateOf rejectOf startOf lastBelow uplink placeHas bearerHas entryIn entryAt entriesOf filterOf entryFits firstFit uplinkAt hasUplink otherwiseOf routeOn routeOf shownActive goneBy synchroniseOf
+unfolding allBelow anyBelow picks tab pad every isIn repeats sameUnder beFrom excluded added held wellCoded emptyPlace validHeader agreesNetwork fits sample fittable lengthOf componentOf contentsFrom contentsOf splitOf parameters restFits framedBy framedOf noFilters noMarks codedOf elementEntries twice inPlaces marked readValue readElement filterFine bearerFine transactionsApart transactionFrom distinctTransactions joined rowPrecedences connectionPrecedences distinctAt distinctPrecedences wellFormed opensAt isOpen closed ofConnection deletedIn holdsIn staysIn empties old takenBy takes conflict placed conflictIn loses placedIn losesAt conflictOnDefault follows released followers otherAt onlyConnection layWithin layOf headFine deletedFilters deletedTft modifyRead modifyNamed modifyOf dropped isAt ownerOf run replies emptyTable activateDefaultOf activateRead activateNamed activateDedicatedOf deactivateOf rejectOf startOf lastBelow uplink placeHas bearerHas entryIn entryAt entriesOf filterOf entryFits firstFit uplinkAt hasUplink otherwiseOf routeOn routeOf shownActive goneBy synchroniseOf kindOf formIn elements activationStart readOf requestOf acceptOf handleOf
 computed = (refl, (refl, refl, refl, refl, refl), (refl, refl, refl, refl))
 
 pub samples : Samples

@@ -1,4 +1,4 @@
--- The calls on a table, as values, and a sequence of them: document 01's six, and the taking of a status (document 02, 1/14). The numbers that may be given.
+-- The calls on a table, as values, and a sequence of them: document 01's six, the taking of a status and the handling of a message (document 02, 1/14 and 5/14). The numbers that may be given.
 use Prim.Native.Nat.{ℕ, _^_, _<_}
 use mathlib.Core.Bool.{not, _&&_}
 use mathlib.Core.List.{List, [], _∷_}
@@ -15,6 +15,11 @@ use Rattle.calls.specs.Steps.{closed}
 use Rattle.calls.specs.Modify.{mismatch, modifyOf}
 use Rattle.calls.specs.Others.{activateDefaultOf, activateDedicatedOf, deactivateOf, rejectOf, startOf}
 use Rattle.status.specs.Take.{synchroniseOf}
+use Rattle.messages.specs.declared.layout.Kind.{Kind}
+use Rattle.messages.specs.declared.layout.Kind.the-variants.{DedicatedRequest, DedicatedAccept, DedicatedReject, ModifyRequest, ModifyAccept}
+use Rattle.messages.specs.declared.layout.Kind.the-variants.{ModifyReject, DeactivateRequest, DeactivateAccept, ModificationReject}
+use Rattle.messages.specs.Read.{Said, unread, says}
+use Rattle.messages.specs.Handle.{askedBy, handleOf}
 
 -- a call, with any arguments
 pub data Call : Type 0 where
@@ -25,6 +30,7 @@ pub data Call : Type 0 where
   reject : (transaction cause : ℕ) → Call
   start : (transaction bearer : ℕ) → Call
   synchronise : (value : List ℕ) → Call
+  handle : (message : List ℕ) → Call
 
 -- its outcome, by the definition that the contract of the function cites
 abbrev pub outcomeOf : Table → Call → Outcome
@@ -35,6 +41,7 @@ outcomeOf t (deactivate bearer transaction) = deactivateOf t bearer transaction
 outcomeOf t (reject transaction cause) = rejectOf t transaction cause
 outcomeOf t (start transaction bearer) = startOf t transaction bearer
 outcomeOf t (synchronise value) = synchroniseOf t value
+outcomeOf t (handle message) = handleOf t message .outcome
 
 -- each table is fed into the next call; refused calls are in the list like any other
 unfoldable pub run : Table → List Call → Table
@@ -49,7 +56,7 @@ replies t (c ∷ cs) = outcomeOf t c .reply ∷ replies (outcomeOf t c .table) c
 abbrev pub reached : List Call → Table
 reached cs = run emptyTable cs
 
--- what is asked of a call's arguments, and no more: an element's octets are octets, and a transaction that is started is a number of its type
+-- what is asked of a call's arguments, and no more: an element's or a message's octets are octets, and a transaction that is started is a number of its type
 abbrev pub Sent : Call → Type 0
 Sent (activateDefault bearer) = Unit {0}
 Sent (activateDedicated bearer link transaction value) = All Octet value
@@ -58,8 +65,9 @@ Sent (deactivate bearer transaction) = Unit {0}
 Sent (reject transaction cause) = Unit {0}
 Sent (start transaction bearer) = transaction < 2 ^ 8
 Sent (synchronise value) = Unit {0}
+Sent (handle message) = All Octet message
 
--- "Numbers given", and 12, 13 and 14 of document 02: of these, those that a message may give; 0 where nothing is refused
+-- "Numbers given", and 12 to 16 of document 02: of these, those that a message may give; 0 where nothing is refused
 abbrev pub messageNumbers : List ℕ
 messageNumbers = 0 ∷ 1 ∷ 41 ∷ 42 ∷ 43 ∷ 44 ∷ 45 ∷ 47 ∷ []
 
@@ -72,6 +80,7 @@ numbersOf (deactivate bearer transaction) = 0 ∷ 1 ∷ []
 numbersOf (reject transaction cause) = 0 ∷ 1 ∷ 3 ∷ []
 numbersOf (start transaction bearer) = 0 ∷ 1 ∷ 4 ∷ 5 ∷ 6 ∷ 7 ∷ []
 numbersOf (synchronise value) = 0 ∷ 1 ∷ 12 ∷ []
+numbersOf (handle message) = 0 ∷ 1 ∷ 3 ∷ 15 ∷ 16 ∷ 41 ∷ 42 ∷ 43 ∷ 44 ∷ 45 ∷ 47 ∷ []
 
 -- .. those that the reader, the writer, the answer to any call, a route and the writing of a status may have
 abbrev pub readerNumbers : List ℕ
@@ -81,7 +90,7 @@ abbrev pub writerNumbers : List ℕ
 writerNumbers = 0 ∷ 10 ∷ 11 ∷ 9 ∷ []
 
 abbrev pub replyNumbers : List ℕ
-replyNumbers = 0 ∷ 1 ∷ 3 ∷ 4 ∷ 5 ∷ 6 ∷ 7 ∷ 12 ∷ 41 ∷ 42 ∷ 43 ∷ 44 ∷ 45 ∷ 47 ∷ []
+replyNumbers = 0 ∷ 1 ∷ 3 ∷ 4 ∷ 5 ∷ 6 ∷ 7 ∷ 12 ∷ 15 ∷ 16 ∷ 41 ∷ 42 ∷ 43 ∷ 44 ∷ 45 ∷ 47 ∷ []
 
 abbrev pub routeNumbers : List ℕ
 routeNumbers = 0 ∷ 1 ∷ 8 ∷ 2 ∷ []
@@ -95,9 +104,32 @@ portionNumbers (announce n) = 0 ∷ 42 ∷ []
 portionNumbers (feed portion) = 0 ∷ 13 ∷ []
 portionNumbers finish = 0 ∷ 13 ∷ 14 ∷ 42 ∷ 44 ∷ 45 ∷ []
 
+-- .. and, of 5/14, the reader of a message and its writer
+abbrev pub parsedNumbers : List ℕ
+parsedNumbers = 0 ∷ 15 ∷ 16 ∷ []
+
+abbrev pub assembledNumbers : List ℕ
+assembledNumbers = 0 ∷ 15 ∷ 9 ∷ []
+
 -- the table as a refusal leaves it: "A match is closed, whatever follows."
 abbrev pub matchedIn : Table → ℕ → Table
 matchedIn t transaction = pick (wellFormed t && not (mismatch t transaction)) (closed t transaction) t
+
+-- by the kind of a message: an activation and a modify match their transaction at step 2
+abbrev pub leftByKind : Kind → Table → ℕ → Table
+leftByKind (DedicatedRequest link) t transaction = matchedIn t transaction
+leftByKind ModifyRequest t transaction = matchedIn t transaction
+leftByKind (DeactivateRequest why) t transaction = t
+leftByKind (ModificationReject why) t transaction = t
+leftByKind DedicatedAccept t transaction = t
+leftByKind (DedicatedReject why) t transaction = t
+leftByKind ModifyAccept t transaction = t
+leftByKind (ModifyReject why) t transaction = t
+leftByKind DeactivateAccept t transaction = t
+
+abbrev pub leftBySaid : Said → Table → Table
+leftBySaid (unread fault) t = t
+leftBySaid (says f) t = leftByKind (f .kind) t (f .transaction)
 
 abbrev pub leftBy : Table → Call → Table
 leftBy t (activateDefault bearer) = t
@@ -107,3 +139,4 @@ leftBy t (deactivate bearer transaction) = t
 leftBy t (reject transaction cause) = t
 leftBy t (start transaction bearer) = t
 leftBy t (synchronise value) = t
+leftBy t (handle message) = leftBySaid (askedBy message) t

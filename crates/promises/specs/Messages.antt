@@ -11,7 +11,8 @@ use Rattle.calls.specs.Steps.{home}
 use Rattle.calls.specs.Checks.{DefaultNumbered, DeactivateNumbered, RejectNumbered, StartNumbered}
 use Rattle.calls.specs.Checks.{Active, Linkable, Permitted, IsCreate, Empties, Passed, Numbered}
 use Rattle.status.specs.Take.{SynchroniseNumbered}
-use Rattle.promises.specs.Calls.{Call, activateDefault, activateDedicated, modify, deactivate, reject, start, synchronise, outcomeOf}
+use Rattle.messages.specs.Meaning.{HandleNumbered}
+use Rattle.promises.specs.Calls.{Call, activateDefault, activateDedicated, modify, deactivate, reject, start, synchronise, handle, outcomeOf}
 
 pub data Message : Type 0 where
   modifies : (bearer transaction : ℕ) → (value : List ℕ) → Message
@@ -86,3 +87,4 @@ CallNumbered t (deactivate bearer transaction) = DeactivateNumbered t
 CallNumbered t (reject transaction cause) = RejectNumbered t transaction
 CallNumbered t (start transaction bearer) = StartNumbered t transaction bearer
 CallNumbered t (synchronise value) = SynchroniseNumbered t value
+CallNumbered t (handle message) = HandleNumbered t message

@@ -1,0 +1,13 @@
+pub mod Turns
+pub mod Inside
+pub mod Accepting
+pub mod Handling
+pub mod Putting
+pub mod Reading
+pub mod RoundTrip
+pub mod Skipping
+pub mod Answering
+pub mod Theorems
+pub mod Exactly
+pub mod Carried
+pub mod Examples
