@@ -1,4 +1,4 @@
-//! The six calls that change the table.
+//! The calls that change the table.
 
 use crate::element::{self, Cause, Kind, Operation};
 use crate::filter::{row_is_empty, Filter, Octets256, Row};
@@ -58,6 +58,13 @@ pub fn modify(table: &mut Table, bearer: u8, transaction: u8, octets: &[u8]) -> 
         let operation = modify_request(table, bearer, role, octets)?;
         let default = if let Role::Dedicated { link } = role { link } else { bearer };
         Ok(lay(table, bearer, default, &operation))
+    })
+}
+
+/// "A modify without a TFT is accepted after steps 1 to 3 and changes nothing but a closed transaction."
+pub fn modify_without_tft(table: &mut Table, bearer: u8, transaction: u8) -> Answer {
+    answered(table, bearer, transaction, |table| {
+        table.is_active(bearer).then_some(accept(bearer)).ok_or(INVALID_IDENTITY)
     })
 }
 

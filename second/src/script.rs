@@ -2,8 +2,10 @@
 
 use crate::element::{component_of, Kind};
 use crate::filter::{Component, Filter, Header, Type};
+use crate::messages;
 use crate::portions::Portions;
 use crate::table::Role;
+use crate::text;
 
 pub const LONGEST_HEX: usize = 1024;
 pub const LARGEST_BUFFER: usize = 512;
@@ -36,6 +38,24 @@ impl Value {
     }
 }
 
+/// What `assemble` is given: a message, whether or not it could be read back, and the size of the buffer.
+#[derive(Clone, Copy)]
+pub struct Assembly {
+    kind: messages::Kind,
+    bearer: u8,
+    transaction: u8,
+    number: u8,
+    tft: Option<Octets>,
+    pub size: usize,
+}
+
+impl Assembly {
+    pub fn message(&self) -> messages::Message<'_> {
+        let Assembly { kind, bearer, transaction, number, ref tft, .. } = *self;
+        messages::Message { kind, bearer, transaction, number, tft: tft.as_ref().map(Octets::slice) }
+    }
+}
+
 /// One call.
 #[derive(Clone, Copy)]
 pub enum Call {
@@ -56,6 +76,9 @@ pub enum Call {
     Portion { octets: Octets },
     Finish,
     ForceFed { state: Portions },
+    Parse { octets: Octets },
+    Message { octets: Octets },
+    Assemble { assembly: Assembly },
     Compose { kind: Kind },
     Filter { identifier: u8, filter: Filter },
     Identifier { identifier: u8 },
@@ -212,6 +235,8 @@ fn call(words: &mut Words) -> Option<Call> {
         b"portion" => Some(Call::Portion { octets: words.octets()? }),
         b"finish" => Some(Call::Finish),
         b"force-fed" => Some(Call::ForceFed { state: state(words)? }),
+        b"parse" => Some(Call::Parse { octets: words.octets()? }),
+        b"assemble" => Some(Call::Assemble { assembly: assembly(words)? }),
         b"compose" => Some(Call::Compose { kind: kind(words.next()?)? }),
         b"filter" => Some(Call::Filter { identifier: words.place()?, filter: filter(words)? }),
         b"identifier" => Some(Call::Identifier { identifier: words.place()? }),
@@ -247,6 +272,7 @@ fn table_call(name: &[u8], words: &mut Words) -> Option<Call> {
         b"status" => Some(Call::Status { size: words.size()? }),
         b"synchronise" => Some(Call::Synchronise { octets: words.octets()? }),
         b"compare" => Some(Call::Compare { octets: words.octets()? }),
+        b"message" => Some(Call::Message { octets: words.octets()? }),
         _ => None,
     }
 }
@@ -274,6 +300,19 @@ fn kind(word: &[u8]) -> Option<Kind> {
         b"none" => Some(Kind::None),
         _ => None,
     }
+}
+
+/// `KIND E T X TFT N`
+fn assembly(words: &mut Words) -> Option<Assembly> {
+    let name = words.next()?;
+    let kind = messages::KINDS.into_iter().find(|kind| text::message_kind(*kind).as_bytes() == name)?;
+    let (bearer, transaction, number) = (words.octet()?, words.octet()?, words.octet()?);
+    if number != 0 && !kind.has_number() {
+        return None;
+    }
+    let word = words.next()?;
+    let tft = if word == b"none" { None } else { Some(octets(word)?) };
+    Some(Assembly { kind, bearer, transaction, number, tft, size: words.size()? })
 }
 
 fn switch(word: &[u8]) -> Option<bool> {

@@ -4,6 +4,7 @@ use std::hint::black_box;
 
 use crate::calls::{self, Answer, NOT_WELL_FORMED};
 use crate::element::{self, Operation};
+use crate::messages;
 use crate::portions::{Portions, Reading};
 use crate::route;
 use crate::script::{asked, Asked, Call, LARGEST_BUFFER};
@@ -82,6 +83,11 @@ impl Session {
             Call::Portion { octets } => portion(&mut self.portions, octets.slice(), out),
             Call::Finish => finish(&self.portions, out),
             Call::ForceFed { state } => self.force_fed(state, out),
+            Call::Parse { octets } => parse(octets.slice(), out),
+            Call::Message { octets } => message(&mut self.table, octets.slice(), out),
+            Call::Assemble { assembly } => {
+                written(assembly.size, out, |buffer| messages::write(&assembly.message(), buffer))
+            }
             Call::Compose { .. } | Call::Filter { .. } | Call::Identifier { .. } | Call::Emit { .. } => {
                 return self.compose(call, out);
             }
@@ -212,6 +218,23 @@ fn finish(portions: &Portions, out: &mut Text) {
     match portions.finish() {
         Ok(read) => reading(&read, out),
         Err(number) => text::line(out, "refused ", number),
+    }
+}
+
+fn parse(octets: &[u8], out: &mut Text) {
+    match messages::read(octets) {
+        Ok(message) => text::message(out, &message),
+        Err(number) => text::line(out, "refused ", number),
+    }
+}
+
+fn message(table: &mut Table, octets: &[u8], out: &mut Text) {
+    let handled = messages::handle(table, octets);
+    text::answer(out, &handled.answer);
+    if let Some(message) = handled.sent {
+        let mut buffer = [BEFORE; LARGEST_BUFFER];
+        let length = messages::write(&message, &mut buffer).expect("an answer can be read back");
+        text::sent(out, &buffer[..length]);
     }
 }
 

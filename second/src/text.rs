@@ -3,6 +3,7 @@
 use crate::calls::{Answer, Identities};
 use crate::element::{filters_in, Kind, Operation};
 use crate::filter::{Component, Filter, Row};
+use crate::messages::{self, Message};
 use crate::route::Route;
 use crate::status::Comparison;
 use crate::table::{identities, Bearer, Role, Table};
@@ -202,6 +203,43 @@ fn bearer(text: &mut Text, identity: u8, bearer: &Bearer) {
     }
     line(text, " transaction ", bearer.transaction);
     row(text, &bearer.row);
+}
+
+pub fn message_kind(kind: messages::Kind) -> &'static str {
+    match kind {
+        messages::Kind::DedicatedRequest => "dedicated-request",
+        messages::Kind::DedicatedAccept => "dedicated-accept",
+        messages::Kind::DedicatedReject => "dedicated-reject",
+        messages::Kind::ModifyRequest => "modify-request",
+        messages::Kind::ModifyAccept => "modify-accept",
+        messages::Kind::ModifyReject => "modify-reject",
+        messages::Kind::DeactivateRequest => "deactivate-request",
+        messages::Kind::DeactivateAccept => "deactivate-accept",
+        messages::Kind::ModificationReject => "modification-reject",
+    }
+}
+
+pub fn message(text: &mut Text, message: &Message) {
+    words(text, message_kind(message.kind));
+    one(text, " bearer ", message.bearer);
+    one(text, " transaction ", message.transaction);
+    if message.kind.has_link() {
+        one(text, " link ", message.number);
+    }
+    if message.kind.has_cause() {
+        one(text, " cause ", message.number);
+    }
+    if let Some(tft) = message.tft {
+        words(text, " tft ");
+        buffer(text, tft);
+    }
+    words(text, "\n");
+}
+
+pub fn sent(text: &mut Text, octets: &[u8]) {
+    words(text, "send ");
+    hexadecimal(text, octets);
+    words(text, "\n");
 }
 
 /// "the whole buffer in HEX (`-` where N is 0)"
