@@ -1,5 +1,7 @@
 //! The forms that a reply can take, and how often each stands in an output.
 
+mod messages;
+
 use std::iter::{once, repeat};
 
 use crate::element::filters_in;
@@ -11,8 +13,10 @@ use crate::script::{asked, Asked, Call};
 use crate::session::Session;
 use crate::table::Table;
 use crate::text::Text;
+use messages::About;
 
-/// Every form that the bench language has, numbers and lists left out but for those that are the point of the reply.
+/// Every form that the bench language has but for those of messages, numbers and lists left out but for those that are the point of the
+/// reply.
 pub const FORMS: [&str; 131] = [
     "accept",
     "accept follow-up",
@@ -148,7 +152,10 @@ pub const FORMS: [&str; 131] = [
 ];
 
 /// The lines whose replies are counted apart, since others give some of the same.
-const COUNTED_APART: [&str; 11] = [
+const COUNTED_APART: [&str; 14] = [
+    "parse",
+    "message",
+    "assemble",
     "status",
     "synchronise",
     "compare",
@@ -176,11 +183,13 @@ pub struct Reply {
     line: String,
 }
 
-/// What tells replies apart that read the same: what is wrong with the state of portions, and what decides the route of an SCTP packet.
-#[derive(Clone, Copy, PartialEq, Eq, Debug)]
+/// What tells replies apart that read the same: what is wrong with the state of portions, what decides the route of an SCTP packet, and what a
+/// message says.
+#[derive(Clone, PartialEq, Eq, Debug)]
 struct Standing {
     unsound: Option<Unsound>,
     sctp: Option<Decider>,
+    about: Option<About>,
 }
 
 /// The kind of filter that decides a route.
@@ -194,13 +203,17 @@ enum Decider {
 
 impl Standing {
     fn before(session: &Session, line: &[u8]) -> Standing {
-        let sctp = match asked(line) {
-            Asked::Call { call: Call::Route { default, header }, .. } if header.protocol == SCTP => {
-                Some(Decider::of(&session.table, default, &header))
-            }
-            _ => None,
-        };
-        Standing { unsound: session.portions.unsound(), sctp }
+        let (mut sctp, mut about) = (None, None);
+        if let Asked::Call { times, call } = asked(line) {
+            about = About::of(&call, times, &session.table);
+            sctp = match call {
+                Call::Route { default, header } if header.protocol == SCTP => {
+                    Some(Decider::of(&session.table, default, &header))
+                }
+                _ => None,
+            };
+        }
+        Standing { unsound: session.portions.unsound(), sctp, about }
     }
 }
 
@@ -237,6 +250,9 @@ impl Reply {
         }
         if !COUNTED_APART.contains(&self.word.as_str()) {
             return form;
+        }
+        if let Some(about) = self.standing.about.as_ref().filter(|_| form != "bad line") {
+            return about.form(&form);
         }
         let fed = self.word.ends_with(" fed");
         match form.as_str() {
@@ -315,6 +331,7 @@ fn form(line: &str) -> String {
         ["synchronised", _] => "synchronised E".to_string(),
         ["synchronised", _, _, ..] => "synchronised E..".to_string(),
         ["both", ..] => lists_form(&words),
+        ["send", octets] => format!("send {}", octets.get(4..6).unwrap_or_default()),
         _ => line.to_string(),
     }
 }
@@ -369,15 +386,23 @@ pub fn played(mut script: &[u8]) -> (Text, Vec<Reply>) {
 fn replies_in(output: &[u8], asked: &[u8], standing: Standing) -> Vec<Reply> {
     let lines = String::from_utf8_lossy(output);
     let words = once(word(asked)).chain(repeat(String::new()));
-    lines.lines().zip(words).map(|(line, word)| Reply { word, standing, line: line.to_string() }).collect()
+    let reply = |(line, word): (&str, String)| {
+        let standing = standing.clone();
+        Reply { word, standing, line: line.to_string() }
+    };
+    lines.lines().zip(words).map(reply).collect()
+}
+
+fn all_forms() -> impl Iterator<Item = &'static str> {
+    FORMS.into_iter().chain(messages::FORMS)
 }
 
 /// How often each form stands in replies, and what is wrong: lines of no form, and forms too rare.
 pub fn count(replies: &[Reply]) -> (Vec<(&'static str, usize)>, Vec<String>) {
     let forms: Vec<String> = replies.iter().map(Reply::form).collect();
     let times = |wanted: &str| forms.iter().filter(|form| *form == wanted).count();
-    let counts: Vec<(&str, usize)> = FORMS.iter().map(|wanted| (*wanted, times(wanted))).collect();
-    let unknown = forms.iter().filter(|form| !FORMS.contains(&form.as_str()));
+    let counts: Vec<(&str, usize)> = all_forms().map(|wanted| (wanted, times(wanted))).collect();
+    let unknown = forms.iter().filter(|form| !all_forms().any(|known| known == *form));
     let unknown = unknown.map(|line| format!("no form: {line}"));
     let rare = counts.iter().filter(|(_, times)| *times < LEAST);
     let rare = rare.map(|(form, times)| format!("only {times} times: {form}"));
@@ -393,7 +418,7 @@ mod tests {
     #[test]
     fn generated_scripts_show_every_form_often_enough() {
         for seed in [0, 1, 2, 3, 4, 20260401] {
-            let (_, wrong) = count(&played(&script(seed, 20_000)).1);
+            let (_, wrong) = count(&played(&script(seed, 22_500)).1);
             assert!(wrong.is_empty(), "seed {seed}:\n{}", wrong.join("\n"));
         }
     }

@@ -147,15 +147,6 @@ impl Kind {
             None
         }
     }
-
-    /// A dedicated request must have a TFT, a modify request may, and no other can.
-    fn takes_tft(self, present: bool) -> bool {
-        match self {
-            Kind::DedicatedRequest => present,
-            Kind::ModifyRequest => true,
-            _ => !present,
-        }
-    }
 }
 
 /// What is kept of a message. `number` is the link or the cause, and 0 for the kinds without one.
@@ -168,6 +159,28 @@ pub struct Message<'a> {
     pub tft: Option<&'a [u8]>,
 }
 
+/// Why octets are not taken as a message.
+#[derive(Clone, Copy, PartialEq, Eq, Debug)]
+pub enum Fault {
+    UnderThreeOctets,
+    Discriminator,
+    Type,
+    Reply,
+    MandatoryPart,
+    UnlistedElement,
+    PastTheEnd,
+    SecondTft,
+}
+
+impl Fault {
+    pub fn number(self) -> u8 {
+        match self {
+            Fault::Discriminator | Fault::Type | Fault::Reply => NO_SUCH_MESSAGE,
+            _ => BADLY_FRAMED,
+        }
+    }
+}
+
 /// The first three octets.
 #[derive(Clone, Copy)]
 struct Head {
@@ -176,39 +189,41 @@ struct Head {
     transaction: u8,
 }
 
-/// 16 under three octets, then 15.
-fn head(octets: &[u8]) -> Result<Head, u8> {
+fn head(octets: &[u8]) -> Result<Head, Fault> {
     let [first, transaction, kind, ..] = *octets else {
-        return Err(BADLY_FRAMED);
+        return Err(Fault::UnderThreeOctets);
     };
-    let kind = Kind::of_octet(kind).filter(|_| first & LARGEST_HALF == DISCRIMINATOR);
-    Ok(Head { kind: kind.ok_or(NO_SUCH_MESSAGE)?, bearer: first >> 4, transaction })
+    if first & LARGEST_HALF != DISCRIMINATOR {
+        return Err(Fault::Discriminator);
+    }
+    let kind = Kind::of_octet(kind).ok_or(Fault::Type)?;
+    Ok(Head { kind, bearer: first >> 4, transaction })
 }
 
-pub fn read(octets: &[u8]) -> Result<Message<'_>, u8> {
-    body(head(octets)?, &octets[3..]).ok_or(BADLY_FRAMED)
-}
-
-/// The mandatory parts, then the optional elements up to the end.
-fn body(head: Head, after_head: &[u8]) -> Option<Message<'_>> {
-    let Head { kind, bearer, transaction } = head;
-    let mut rest = after_head;
-    let (mut number, mut tft) = (0, None);
-    if kind.has_link() {
-        number = take(&mut rest, 1)?[0] & LARGEST_HALF;
-        with_length(&mut rest)?;
-        tft = Some(with_length(&mut rest)?);
-    }
-    if kind.has_cause() {
-        number = take(&mut rest, 1)?[0];
-    }
+pub fn read(octets: &[u8]) -> Result<Message<'_>, Fault> {
+    let Head { kind, bearer, transaction } = head(octets)?;
+    let mut rest = &octets[3..];
+    let (number, mut tft) = mandatory(kind, &mut rest).ok_or(Fault::MandatoryPart)?;
     while !rest.is_empty() {
-        let (identifier, value) = next_element(kind, &mut rest)?;
-        if identifier == TFT && tft.replace(value).is_some() {
-            return None;
+        let (first, value) = next_element(kind, &mut rest)?;
+        if first == TFT && tft.replace(value).is_some() {
+            return Err(Fault::SecondTft);
         }
     }
-    Some(Message { kind, bearer, transaction, number, tft })
+    Ok(Message { kind, bearer, transaction, number, tft })
+}
+
+/// The link or the cause, and the TFT of a dedicated request.
+fn mandatory<'a>(kind: Kind, rest: &mut &'a [u8]) -> Option<(u8, Option<&'a [u8]>)> {
+    if kind.has_link() {
+        let link = take(rest, 1)?[0] & LARGEST_HALF;
+        let _qos = with_length(rest)?;
+        Some((link, Some(with_length(rest)?)))
+    } else if kind.has_cause() {
+        Some((take(rest, 1)?[0], None))
+    } else {
+        Some((0, None))
+    }
 }
 
 fn take<'a>(rest: &mut &'a [u8], octets: usize) -> Option<&'a [u8]> {
@@ -227,33 +242,55 @@ fn with_two_length_octets<'a>(rest: &mut &'a [u8]) -> Option<&'a [u8]> {
     take(rest, u16::from_be_bytes([length[0], length[1]]).into())
 }
 
-/// The first octet of the next element, and its value; nothing where the kind does not list it or it goes past the end.
-fn next_element<'a>(kind: Kind, rest: &mut &'a [u8]) -> Option<(u8, &'a [u8])> {
-    let first = take(rest, 1)?[0];
-    let value = match kind.format(first)? {
+/// The first octet of the next element, and its value.
+fn next_element<'a>(kind: Kind, rest: &mut &'a [u8]) -> Result<(u8, &'a [u8]), Fault> {
+    let first = take(rest, 1).ok_or(Fault::PastTheEnd)?[0];
+    let value = match kind.format(first).ok_or(Fault::UnlistedElement)? {
         Format::Half => Some(&[][..]),
         Format::Tv => take(rest, 1),
         Format::Tlv => with_length(rest),
         Format::TlvE => with_two_length_octets(rest),
     };
-    Some((first, value?))
+    Ok((first, value.ok_or(Fault::PastTheEnd)?))
+}
+
+/// Why a message could not be read back.
+#[derive(Clone, Copy, PartialEq, Eq, Debug)]
+pub enum Unreadable {
+    Identity,
+    Number,
+    LongTft,
+    TftOfOtherKind,
+    NoTft,
+}
+
+impl Message<'_> {
+    pub fn unreadable(&self) -> Option<Unreadable> {
+        let (must, may) = (self.kind == Kind::DedicatedRequest, self.kind == Kind::ModifyRequest);
+        if self.bearer > LARGEST_HALF {
+            Some(Unreadable::Identity)
+        } else if self.number > self.kind.largest_number() {
+            Some(Unreadable::Number)
+        } else if self.tft.is_some() && !must && !may {
+            Some(Unreadable::TftOfOtherKind)
+        } else if self.tft.is_none() && must {
+            Some(Unreadable::NoTft)
+        } else if self.tft.is_some_and(|tft| tft.len() > LONGEST_VALUE) {
+            Some(Unreadable::LongTft)
+        } else {
+            None
+        }
+    }
 }
 
 /// Writes the message and gives how many octets it took; a refusal, 15 or then 9, leaves the buffer.
 pub fn write(message: &Message, buffer: &mut [u8]) -> Result<usize, u8> {
-    if !could_be_read(message) {
+    if message.unreadable().is_some() {
         return Err(NO_SUCH_MESSAGE);
     }
     let octets = octets_of(message);
     buffer.get_mut(..octets.len()).ok_or(BUFFER_TOO_SHORT)?.copy_from_slice(&octets);
     Ok(octets.len())
-}
-
-fn could_be_read(message: &Message) -> bool {
-    let Message { kind, bearer, number, tft, .. } = *message;
-    let has_room = tft.is_none_or(|tft| tft.len() <= LONGEST_VALUE);
-    let is_in_range = bearer <= LARGEST_HALF && number <= kind.largest_number();
-    is_in_range && has_room && kind.takes_tft(tft.is_some())
 }
 
 fn octets_of(message: &Message) -> Vec<u8> {
@@ -282,22 +319,23 @@ pub struct Handled {
 }
 
 pub fn handle(table: &mut Table, octets: &[u8]) -> Handled {
-    match received(table, octets) {
+    let refused = |number| Handled { answer: Answer::Refused(number), sent: None };
+    if !table.is_well_formed() {
+        return refused(NOT_WELL_FORMED);
+    }
+    match received(octets) {
         Ok(message) => {
             let answer = call(table, &message);
             Handled { answer, sent: sent(&message, &answer) }
         }
-        Err(number) => Handled { answer: Answer::Refused(number), sent: None },
+        Err(fault) => refused(fault.number()),
     }
 }
 
-/// 1, then 16 under three octets, then 15, for a reply type too, then 16 for the framing.
-fn received<'a>(table: &Table, octets: &'a [u8]) -> Result<Message<'a>, u8> {
-    if !table.is_well_formed() {
-        return Err(NOT_WELL_FORMED);
-    }
+/// A reply type is refused like any other type, before its framing is looked at.
+pub fn received(octets: &[u8]) -> Result<Message<'_>, Fault> {
     if head(octets)?.kind.is_reply() {
-        return Err(NO_SUCH_MESSAGE);
+        return Err(Fault::Reply);
     }
     read(octets)
 }

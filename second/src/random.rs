@@ -47,6 +47,15 @@ impl Random {
         }
     }
 
+    /// The last one left of all, shuffled anew when none is: so each comes about as often as the others.
+    pub fn draw<T: Copy>(&mut self, left: &mut Vec<T>, all: &[T]) -> T {
+        if left.is_empty() {
+            left.extend(all);
+            self.shuffle(left);
+        }
+        left.pop().expect("there are some")
+    }
+
     /// The position of one of the weights, each as likely as it weighs.
     pub fn weighted(&mut self, weights: &[usize]) -> usize {
         let mut left = self.below(weights.iter().sum());

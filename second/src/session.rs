@@ -224,7 +224,7 @@ fn finish(portions: &Portions, out: &mut Text) {
 fn parse(octets: &[u8], out: &mut Text) {
     match messages::read(octets) {
         Ok(message) => text::message(out, &message),
-        Err(number) => text::line(out, "refused ", number),
+        Err(fault) => text::line(out, "refused ", fault.number()),
     }
 }
 

@@ -23,7 +23,7 @@ impl Generator {
     }
 
     fn echoed_line(&mut self) {
-        match self.random.weighted(&[12, 4, 4, 3, 8, 8, 2, 2, 2, 1]) {
+        match self.random.weighted(&[12, 4, 4, 3, 8, 8, 2, 2, 2, 2, 1]) {
             0 => self.table_call(),
             1 => self.element_line(),
             2 => self.repeated(),
@@ -33,6 +33,7 @@ impl Generator {
             6 => self.long_line(),
             7 => self.bad_echo(),
             8 => self.portion_call(),
+            9 => self.message_call(),
             _ => self.echo("on"),
         }
     }

@@ -292,13 +292,27 @@ impl Generator {
 
     /// Mostly one filter with a precedence that the connection's default holds.
     pub fn conflicting_element_for(&mut self, kind: Kind, bearer: u8) -> Vec<u8> {
-        let kind = if kind == Kind::Create { kind } else { self.random.pick(&[Kind::Add, Kind::Replace]) };
         let role = self.table().bearer(bearer).map_or(Role::Idle, |bearer| bearer.role);
         let default = self.table().bearer(connection_of(bearer, role).unwrap_or(bearer));
         let held: Vec<u8> = default
             .map_or(Vec::new(), |default| filters_in(&default.row).map(|(_, f)| f.precedence).collect());
+        self.element_against(kind, &held)
+    }
+
+    /// The same with one that a dedicated bearer of the connection holds.
+    pub fn element_against_dedicated(&mut self, kind: Kind, bearer: u8) -> Vec<u8> {
+        let role = self.table().bearer(bearer).map_or(Role::Idle, |bearer| bearer.role);
+        let link = connection_of(bearer, role).unwrap_or(bearer);
+        let of_connection = self.table().numbered().filter(|(_, b)| b.role == Role::Dedicated { link });
+        let held: Vec<u8> =
+            of_connection.flat_map(|(_, b)| filters_in(&b.row).map(|(_, f)| f.precedence)).collect();
+        self.element_against(kind, &held)
+    }
+
+    fn element_against(&mut self, kind: Kind, held: &[u8]) -> Vec<u8> {
+        let kind = if kind == Kind::Create { kind } else { self.random.pick(&[Kind::Add, Kind::Replace]) };
         let (identifier, any) = (self.random.below(16) as u8, self.precedence());
-        let precedence = self.random.any(&held).unwrap_or(any);
+        let precedence = self.random.any(held).unwrap_or(any);
         let entry = self.filter_entry(identifier, precedence);
         self.assembled(kind, &[entry])
     }

@@ -1,8 +1,11 @@
 //! Scripts of the bench language that build real tables and go wrong in many small ways.
 
+mod assemblies;
+mod drafts;
 mod echo;
 mod elements;
 mod headers;
+mod messages;
 mod portions;
 mod ports;
 mod rubbish;
@@ -44,6 +47,7 @@ struct Generator {
     replies: Vec<u8>,
     lines: u64,
     repeat: Option<usize>,
+    still_to_come: messages::StillToCome,
 }
 
 impl Generator {
@@ -55,6 +59,7 @@ impl Generator {
             replies: Vec::new(),
             lines: 0,
             repeat: None,
+            still_to_come: messages::StillToCome::default(),
         }
     }
 
@@ -62,7 +67,7 @@ impl Generator {
         if self.session.echo && self.random.one_in(20) {
             self.echo("off");
         }
-        match self.random.weighted(&[64, 14, 5, 2, 3, 4, 2, 1, 1, 5]) {
+        match self.random.weighted(&[64, 14, 5, 2, 3, 4, 2, 1, 1, 5, 17]) {
             0 => self.table_call(),
             1 => self.element_line(),
             2 => self.compose(),
@@ -72,7 +77,8 @@ impl Generator {
             6 => self.passed_over(),
             7 => self.echo_stretch(),
             8 => self.look_or_reset(),
-            _ => self.portions(),
+            9 => self.portions(),
+            _ => self.messages(),
         }
         if !self.session.table.is_well_formed() {
             self.clear();
@@ -173,7 +179,7 @@ impl Generator {
 
     fn table_call(&mut self) {
         let (more_defaults, more_status) = match self.bearers(|role| role == Role::Default).len() {
-            0 => (60, 40),
+            0 => (60, 48),
             1 => (4, 6),
             _ => (1, 6),
         };
@@ -372,11 +378,12 @@ impl Generator {
 
     fn repeated(&mut self) {
         self.repeat = Some(1 + self.random.below(12));
-        match self.random.below(7) {
+        match self.random.below(8) {
             0..=2 => self.table_call(),
             3 => self.element_line(),
             4 => self.emit(),
             5 => self.portion_call(),
+            6 => self.message_call(),
             _ => self.look_or_reset(),
         }
         self.repeat = None;
@@ -414,6 +421,9 @@ impl Generator {
         }
         if !self.random.one_in(3) {
             self.use_fed_on_table();
+        }
+        for _ in 0..self.random.below(3) {
+            self.message_line();
         }
         if self.random.one_in(2) {
             self.say("show");

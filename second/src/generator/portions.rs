@@ -105,7 +105,7 @@ impl Generator {
 
     /// Each is to be finished with often enough, and a create comes by other ways too.
     fn any_kind(&mut self) -> Kind {
-        let position = self.random.weighted(&[2, 4, 4, 6, 6, 6]);
+        let position = self.random.weighted(&[1, 4, 4, 7, 7, 7]);
         [Kind::Create, Kind::Add, Kind::Replace, Kind::DeleteFilters, Kind::DeleteTft, Kind::None][position]
     }
 
@@ -243,7 +243,7 @@ impl Generator {
     }
 
     fn use_fed(&mut self) {
-        match self.random.weighted(&[6, 4, 7]) {
+        match self.random.weighted(&[6, 4, 8]) {
             0 => self.use_fed_on_table(),
             1 => self.say("element fed"),
             _ => {
@@ -489,7 +489,7 @@ mod tests {
     fn elements_arrive_split_in_every_way() {
         for seed in [0, 1, 20260401] {
             let mut watch = Watch::default();
-            for (number, line) in script(seed, 20_000).split(|octet| *octet == b'\n').enumerate() {
+            for (number, line) in script(seed, 22_500).split(|octet| *octet == b'\n').enumerate() {
                 watch.line(number, line.strip_suffix(b"\r").unwrap_or(line));
             }
             let times = |situation: &str| watch.seen.get(situation).copied().unwrap_or(0);

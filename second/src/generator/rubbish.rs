@@ -67,6 +67,17 @@ const LINES: &[&str] = &[
     "modify 5 0 fed",
     "dedicated 6 5 0 fed",
     "portion fed",
+    "parse 6200C9",
+    "parse 6200C50501090921310A0530115013C4",
+    "message 6200C50501090921310A0530115013C4",
+    "message 6200CD24",
+    "repeat 2 message 6200C93601C0",
+    "message 0201D72B",
+    "assemble modify-request 6 0 0 C0 8",
+    "assemble modify-request 6 0 0 none 8",
+    "assemble deactivate-accept 6 0 1 none 3",
+    "assemble dedicated-request 6 0 5 - 7",
+    "message fed",
 ];
 
 const BAD_ECHOES: &[&str] = &[
@@ -268,6 +279,92 @@ pub fn bad_portion(random: &mut Random) -> String {
     }
 }
 
+/// Near `parse`, `message` and `assemble`.
+const BAD_MESSAGES: [&[&str]; 3] = [
+    &[
+        "parse",
+        "parse 6200C",
+        "parse 62 00 C9",
+        "parse 6200C9 -",
+        "parse 6200C9 6200C9",
+        "parse --",
+        "parse fed",
+        "parse none",
+        "parse 0x6200C9",
+        "parse 6200CG",
+        "Parse 6200C9",
+        "parsed 6200C9",
+        "repeat 2 parse",
+        "repeat 0 parse 6200C9",
+        "repeat parse 6200C9",
+    ],
+    &[
+        "message",
+        "message 6200CD2",
+        "message 62 00 CD 24",
+        "message 6200CD24 24",
+        "message - -",
+        "message fed",
+        "message none",
+        "message 6200CD24 5",
+        "message modify-request",
+        "Message 6200CD24",
+        "messages 6200CD24",
+        "repeat 2 message",
+        "repeat 2 repeat 2 message 6200CD24",
+        "repeat 1000001 message 6200CD24",
+        "send 6200CE",
+    ],
+    &[
+        "assemble",
+        "assemble modify-request",
+        "assemble modify-request 6 0 0 none",
+        "assemble modify-request 6 0 none 3",
+        "assemble modify-request 6 0 0 3",
+        "assemble modify-request 6 0 0 none 3 3",
+        "assemble modify-request 6 0 0 none 513",
+        "assemble modify-request 6 0 0 none -",
+        "assemble modify-request 6 0 1 none 3",
+        "assemble modify-request 6 0 255 C0 9",
+        "assemble modify-request 6 0 256 none 3",
+        "assemble modify-request 256 0 0 none 3",
+        "assemble modify-request 6 256 0 none 3",
+        "assemble modify-request 6 0 - none 3",
+        "assemble modify-request 6 0 0 None 3",
+        "assemble modify-request 6 0 0 NONE 3",
+        "assemble modify-request 6 0 0 fed 3",
+        "assemble modify-request 6 0 0 C 9",
+        "assemble modify-request 6 0 0 C0 C0 9",
+        "assemble modify_request 6 0 0 none 3",
+        "assemble Modify-request 6 0 0 none 3",
+        "assemble modify 6 0 0 none 3",
+        "assemble C9 6 0 0 none 3",
+        "assemble create 6 0 0 none 3",
+        "assemble dedicated-accept 6 0 5 none 3",
+        "assemble modify-accept 6 0 43 none 3",
+        "assemble deactivate-accept 6 0 36 none 3",
+        "assemble dedicated-reject 6 0 none 4",
+        "assemble deactivate-request 6 0 256 none 4",
+        "assemble resource-reject 6 0 43 none 4",
+        "assemble dedicated-request 6 0 5 4",
+        "repeat 2 assemble",
+        "repeat 2 assemble modify-request 6 0 7 none 3",
+    ],
+];
+
+/// One of them, or a HEX that is longer than a line takes.
+pub fn bad_message(random: &mut Random) -> String {
+    match random.below(20) {
+        0 => format!("parse {}", "62".repeat(513 + random.below(2))),
+        1 => format!("message {}", "62".repeat(513 + random.below(2))),
+        2 => format!("assemble modify-request 6 0 0 {} 512", "C0".repeat(513 + random.below(2))),
+        _ => {
+            let near = BAD_MESSAGES[random.weighted(&[3, 3, 4])];
+            random.pick(near).to_string()
+        }
+    }
+}
+
 /// Dotted, but for something.
 const BAD_ADDRESSES: &[&str] = &[
     "256.0.2.1",
@@ -422,7 +519,7 @@ pub fn rubbish(seed: u64) -> Vec<u8> {
 }
 
 fn rubbish_line(random: &mut Random) -> Vec<u8> {
-    match random.below(11) {
+    match random.below(12) {
         0 => (0..random.below(300)).map(|_| random.octet()).collect(),
         1 => long_line(random),
         2 => vec![random.pick(b" #0C\0\xFF\r"); random.below(20_000)],
@@ -432,6 +529,7 @@ fn rubbish_line(random: &mut Random) -> Vec<u8> {
         6 => bad_echo(random).as_bytes().to_vec(),
         7 => bad_status(random).as_bytes().to_vec(),
         8 => bad_portion(random).into_bytes(),
+        9 => bad_message(random).into_bytes(),
         _ => random.pick(LINES).as_bytes().to_vec(),
     }
 }

@@ -11,7 +11,7 @@ const SPARE: Identities = 0x001F;
 
 impl Generator {
     pub fn status_line(&mut self) {
-        match self.random.weighted(&[10, 14, 24, 3]) {
+        match self.random.weighted(&[10, 14, 24, 4]) {
             0 => self.status(),
             1 => self.synchronise(),
             2 => self.compare(),
