@@ -418,7 +418,7 @@ mod tests {
     #[test]
     fn generated_scripts_show_every_form_often_enough() {
         for seed in [0, 1, 2, 3, 4, 20260401] {
-            let (_, wrong) = count(&played(&script(seed, 22_500)).1);
+            let (_, wrong) = count(&played(&script(seed, 22_200)).1);
             assert!(wrong.is_empty(), "seed {seed}:\n{}", wrong.join("\n"));
         }
     }
