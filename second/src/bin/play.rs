@@ -10,6 +10,7 @@ use std::time::{Duration, Instant, SystemTime, UNIX_EPOCH};
 use second::element::{read, write, Operation};
 use second::filter::{Component, Filter, PLACES};
 use second::generator::{damaged, rubbish, script};
+use second::messages::{self, Message};
 use second::random::Random;
 use second::text::hexadecimal;
 
@@ -237,13 +238,14 @@ fn without_words(words: &Lines, at: usize, count: usize) -> Vec<u8> {
     [&words[..at], &words[after..]].concat().join(&b' ')
 }
 
-/// A small number, a simpler element or address, or the word without a half, without two digits, or with two digits 0.
+/// A small number, a simpler element, message or address, or the word without a half, without two digits, or with two digits 0.
 fn simpler_words(word: &[u8]) -> Lines {
     let mut simpler: Lines = [b"0", b"1", b"5", b"6", b"-"].iter().map(|word| word.to_vec()).collect();
     if word.len() < 2 {
         return simpler;
     }
     simpler.extend(simpler_elements(word));
+    simpler.extend(simpler_messages(word));
     simpler.extend(simpler_addresses(word));
     simpler.push(word[..word.len() / 4 * 2].to_vec());
     for at in (0..word.len() - 1).step_by(2) {
@@ -274,6 +276,30 @@ fn simpler_elements(word: &[u8]) -> Lines {
     simpler.iter().filter_map(written).collect()
 }
 
+/// Where the word is a message that reads well: the same without what is skipped, or with a simpler TFT as well.
+fn simpler_messages(word: &[u8]) -> Lines {
+    let octets_of_message = octets(word).unwrap_or_default();
+    let Ok(message) = messages::read(&octets_of_message) else {
+        return Lines::new();
+    };
+    let tft = message.tft.map(hex).unwrap_or_default();
+    let tfts: Lines = simpler_elements(&tft).iter().filter_map(|tft| octets(tft)).collect();
+    let others = tfts.iter().map(|tft| Message { tft: Some(tft), ..message });
+    [message].into_iter().chain(others).filter_map(|message| written_message(&message)).collect()
+}
+
+fn written_message(message: &Message) -> Option<Vec<u8>> {
+    let mut buffer = [0; 512];
+    let length = messages::write(message, &mut buffer).ok()?;
+    Some(hex(&buffer[..length]))
+}
+
+fn hex(octets: &[u8]) -> Vec<u8> {
+    let mut word = Vec::new();
+    hexadecimal(&mut word, octets);
+    word
+}
+
 /// Where the word is dotted: the same with a number less, or with one 0.
 fn simpler_addresses(word: &[u8]) -> Lines {
     let parts: Vec<&[u8]> = word.split(|octet| *octet == b'.').collect();
@@ -301,7 +327,5 @@ fn octets(word: &[u8]) -> Option<Vec<u8>> {
 fn written(operation: &Operation) -> Option<Vec<u8>> {
     let mut buffer = [0; 255];
     let length = write(operation, &mut buffer).ok()?;
-    let mut word = Vec::new();
-    hexadecimal(&mut word, &buffer[..length]);
-    Some(word)
+    Some(hex(&buffer[..length]))
 }

@@ -46,7 +46,7 @@ impl Generator {
     }
 
     fn assembled_identity(&mut self, strange_in: usize) -> u8 {
-        let any = self.random.octet();
+        let any = self.random.octet() | 16;
         if self.random.one_in(strange_in) {
             self.random.pick(&[16, 17, 255, any])
         } else {

@@ -39,6 +39,11 @@ fn listed(kind: Kind, wanted: bool) -> Vec<u8> {
     IDENTIFIERS.into_iter().filter(|i| *i != TFT && kind.format(*i).is_some() == wanted).collect()
 }
 
+/// Every kind with every identifier that only others list.
+fn unlisted_pairs() -> Vec<(Kind, u8)> {
+    KINDS.into_iter().flat_map(|kind| listed(kind, false).into_iter().map(move |i| (kind, i))).collect()
+}
+
 /// Octets that are often taken for an element where something was framed wrongly.
 fn filling(random: &mut Random, length: usize) -> Vec<u8> {
     let one = |random: &mut Random| {
@@ -128,6 +133,10 @@ pub const SPOILS: [Spoil; 21] = [
 impl Generator {
     pub fn any_draft(&mut self) -> Draft {
         let kind = self.random.draw(&mut self.still_to_come.kinds, &KINDS_WITH_TFT_OFTEN);
+        self.any_draft_of(kind)
+    }
+
+    fn any_draft_of(&mut self, kind: Kind) -> Draft {
         let (any, transaction) = (self.random.octet(), self.any_transaction());
         let fields = Fields { bearer: self.random.below(16) as u8, transaction, number: any };
         let has_tft = kind.has_link() || kind == Kind::ModifyRequest && !self.random.one_in(3);
@@ -215,6 +224,15 @@ impl Generator {
         let mut octets = draft.octets();
         octets.truncate(LONGEST_MESSAGE);
         octets
+    }
+
+    /// A sound message but for an element of another kind's list.
+    pub fn draft_with_unlisted(&mut self) -> Draft {
+        let (kind, identifier) = self.random.draw(&mut self.still_to_come.unlisted, &unlisted_pairs());
+        let mut draft = self.any_draft_of(kind);
+        let element = element(&mut self.random, identifier);
+        self.add_element(&mut draft, element);
+        draft
     }
 
     fn add_element(&mut self, draft: &mut Draft, element: Vec<u8>) {

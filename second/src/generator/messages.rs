@@ -92,6 +92,7 @@ const NOT_CREATE: [element::Kind; 5] = [
 #[derive(Default)]
 pub struct StillToCome {
     pub kinds: Vec<Kind>,
+    pub unlisted: Vec<(Kind, u8)>,
     spoils_read: Vec<Spoil>,
     spoils_handled: Vec<Spoil>,
     pub assemblies: Vec<(Kind, Outcome)>,
@@ -126,12 +127,14 @@ impl Generator {
     }
 
     fn parse_line(&mut self) {
-        let draft = self.any_draft();
-        let octets = if self.random.below(5) < 2 {
-            let spoil = self.random.draw(&mut self.still_to_come.spoils_read, &SPOILS);
-            self.spoilt(draft, spoil)
-        } else {
-            draft.octets()
+        let octets = match self.random.below(20) {
+            0 => self.draft_with_unlisted().octets(),
+            1..=8 => {
+                let spoil = self.random.draw(&mut self.still_to_come.spoils_read, &SPOILS);
+                let draft = self.any_draft();
+                self.spoilt(draft, spoil)
+            }
+            _ => self.any_draft().octets(),
         };
         self.say(&format!("parse {}", hex(&octets)));
     }
