@@ -2,7 +2,7 @@
 use crate::scan::Scan;
 use filter::Header;
 
-// `count`, and the number of `Synchronise`, is how many octets were read from the line's HEX.
+// `count`, and the number of `Synchronise` and `Message`, is how many octets were read from the line's HEX.
 pub enum Call {
     Default(u8),
     Dedicated {
@@ -20,6 +20,7 @@ pub enum Call {
     Start(u8, u8),
     Reject(u8, u8),
     Synchronise(usize),
+    Message(usize),
 }
 
 // A filter of the line: its place, what it has before its components, and where these stand in the line.
@@ -60,6 +61,18 @@ pub enum Feeding {
     Force(u8, u8, usize),
 }
 
+// A message to be written, into a buffer of `room` octets. Its kind is the place of its word. What it carries is the link or the cause. Where
+// a TFT is there, its octets were read from the line's HEX.
+pub struct Assembly {
+    pub kind: usize,
+    pub bearer: u8,
+    pub transaction: u8,
+    pub carried: u8,
+    pub there: bool,
+    pub count: usize,
+    pub room: usize,
+}
+
 // What changes neither the table nor the operation. `Nothing` is an empty line or a comment, and `Bad` a line that is none of the language's.
 pub enum Question {
     Nothing,
@@ -74,6 +87,8 @@ pub enum Question {
     Status(usize),
     Compare(usize),
     Feed(Feeding),
+    Parse(usize),
+    Assemble(Assembly),
 }
 
 pub enum Command {

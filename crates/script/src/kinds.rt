@@ -5,8 +5,9 @@ use element::Answer;
 use element::BareOperation;
 use element::SetOperation;
 
-pub(crate) const KINDS: [u8; 90] =
-    *b"create         add            replace        delete-filters delete-tft     none           ";
+pub(crate) const KINDS: [u8; 120] = *b"\
+    create              add                 replace             delete-filters      \
+    delete-tft          none                ";
 
 const CREATE: usize = 0;
 

@@ -2,6 +2,7 @@
 use crate::build::address_from;
 use crate::build::plan_fine;
 use crate::command::Asked;
+use crate::command::Assembly;
 use crate::command::Call;
 use crate::command::Command;
 use crate::command::Feeding;
@@ -11,6 +12,8 @@ use crate::command::Plan;
 use crate::command::Question;
 use crate::command::RoleWord;
 use crate::dotted::dotted;
+use crate::esm::MESSAGES;
+use crate::esm::may_carry;
 use crate::kinds::KINDS;
 use crate::kinds::is_kind;
 use crate::scan::MOST_OCTETS;
@@ -20,6 +23,7 @@ use crate::scan::bad_scan;
 use crate::scan::copy;
 use crate::scan::half;
 use crate::scan::hex;
+use crate::scan::hex_word;
 use crate::scan::number;
 use crate::scan::octet;
 use crate::scan::part;
@@ -35,13 +39,15 @@ use crate::words::place_of;
 use filter::Address;
 use filter::Header;
 
-// The words that a line begins with, and their places.
-const WORDS: [u8; 375] = *b"\
-    default        dedicated      modify         deactivate     start          reject         \
-    route          check          show           element        rewrite        emit           \
-    force          place          compose        filter         identifier     echo           \
-    status         synchronise    compare        announce       portion        finish         \
-    force-fed      ";
+// The words that a line begins with, and their places. Who reads lines lends them: an array that is a constant is made anew, octet by octet,
+// wherever it stands.
+pub const WORDS: [u8; 560] = *b"\
+    default             dedicated           modify              deactivate          start               \
+    reject              route               check               show                element             \
+    rewrite             emit                force               place               compose             \
+    filter              identifier          echo                status              synchronise         \
+    compare             announce            portion             finish              force-fed           \
+    parse               message             assemble            ";
 
 const DEFAULT: usize = 0;
 
@@ -93,8 +99,14 @@ const FINISH: usize = 23;
 
 const FORCE_FED: usize = 24;
 
+const PARSE: usize = 25;
+
+const MESSAGE: usize = 26;
+
+const ASSEMBLE: usize = 27;
+
 // The words of a role, and their places.
-const ROLES: [u8; 45] = *b"idle           default        dedicated      ";
+const ROLES: [u8; 60] = *b"idle                default             dedicated           ";
 
 const IDLE_ROLE: usize = 0;
 
@@ -103,7 +115,7 @@ const DEFAULT_ROLE: usize = 1;
 const DEDICATED_ROLE: usize = 2;
 
 // The words after `echo`, and the place of the last.
-const SWITCHES: [u8; 30] = *b"off            on             ";
+const SWITCHES: [u8; 40] = *b"off                 on                  ";
 
 const ON: usize = 1;
 
@@ -182,13 +194,22 @@ fn read_numbers(line: &[u8], scan: Scan, count: usize) -> Numbers {
     n
 }
 
-// How many numbers a call or `force-fed` has; where a line has HEX too, this stands after them.
+// How many numbers up to 255 stand together in a line, before its HEX where it has one.
 fn numbers_of(word: usize) -> usize {
     match word {
         DEFAULT => 1,
-        DEDICATED => 3,
-        _ => 2,
+        MODIFY | DEACTIVATE | START | REJECT | FORCE_FED => 2,
+        DEDICATED | ASSEMBLE => 3,
+        _ => 0,
     }
+}
+
+// Where these begin: in `assemble` after its kind.
+fn before_numbers(word: usize, line: &[u8], s: Scan) -> Scan {
+    if word != ASSEMBLE {
+        return s;
+    }
+    scan_from(skip_words(line, s.at, 1))
 }
 
 fn call_of(word: usize, n: Numbers, count: usize) -> Call {
@@ -211,23 +232,22 @@ fn call_of(word: usize, n: Numbers, count: usize) -> Call {
     }
 }
 
-fn parse_call(word: usize, line: &[u8], s: Scan) -> Command {
-    let n = read_numbers(line, s, numbers_of(word));
-    let end = n.scan;
+// `end` is where the line is to end: at its numbers, or at the HEX after them.
+fn parse_call(line: &[u8], end: Scan, call: Call) -> Command {
     if !whole(line, end) {
         return bad();
     }
-    Command::Call(call_of(word, n, 0))
+    Command::Call(call)
+}
+
+fn parse_numbered(word: usize, line: &[u8], n: Numbers) -> Command {
+    let end = n.scan;
+    parse_call(line, end, call_of(word, n, 0))
 }
 
 // A call that has an element's value.
-fn parse_valued(word: usize, line: &[u8], s: Scan, value: Scan) -> Command {
-    let n = read_numbers(line, s, numbers_of(word));
-    let before = n.scan;
-    if !(before.ok & whole(line, value)) {
-        return bad();
-    }
-    Command::Call(call_of(word, n, size(value.value)))
+fn parse_valued(word: usize, line: &[u8], n: Numbers, value: Scan) -> Command {
+    parse_call(line, value, call_of(word, n, size(value.value)))
 }
 
 // The next word as the sixteen octets of an address, in HEX.
@@ -321,11 +341,16 @@ fn parse_compare(line: &[u8], value: Scan) -> Command {
     parse_bare(line, value, Question::Compare(size(value.value)))
 }
 
+fn parse_parse(line: &[u8], value: Scan) -> Command {
+    parse_bare(line, value, Question::Parse(size(value.value)))
+}
+
 fn parse_synchronise(line: &[u8], value: Scan) -> Command {
-    if !whole(line, value) {
-        return bad();
-    }
-    Command::Call(Call::Synchronise(size(value.value)))
+    parse_call(line, value, Call::Synchronise(size(value.value)))
+}
+
+fn parse_message(line: &[u8], value: Scan) -> Command {
+    parse_call(line, value, Call::Message(size(value.value)))
 }
 
 fn parse_rewrite(line: &[u8], value: Scan) -> Command {
@@ -440,10 +465,8 @@ fn parse_portion(line: &[u8], value: Scan) -> Command {
     parse_feeding(line, value, Feeding::Portion(size(value.value)))
 }
 
-fn parse_force_fed(line: &[u8], s: Scan, value: Scan) -> Command {
-    let n = read_numbers(line, s, numbers_of(FORCE_FED));
-    let before = n.scan;
-    if !(before.ok & (value.value <= OCTET)) {
+fn parse_force_fed(line: &[u8], n: Numbers, value: Scan) -> Command {
+    if OCTET < value.value {
         return bad();
     }
     parse_feeding(
@@ -453,11 +476,42 @@ fn parse_force_fed(line: &[u8], s: Scan, value: Scan) -> Command {
     )
 }
 
-// What the word asks for; `value` is what its HEX was read as, and says nothing where it has none.
-fn parse_word(word: usize, line: &[u8], s: Scan, value: Scan) -> Command {
+// The word in place of a TFT's HEX that says that there is no TFT.
+fn is_none(line: &[u8], from: usize, to: usize) -> bool {
+    same(part(line, skip_spaces(line, from), to), b"none")
+}
+
+fn parse_assemble(line: &[u8], s: Scan, n: Numbers, value: Scan) -> Command {
+    let kind = listed(&MESSAGES, line, s);
+    let before = n.scan;
+    let none = is_none(line, before.at, value.at);
+    let tft = Scan {
+        at: value.at,
+        ok: before.ok & (value.ok | none),
+        value: 0,
+    };
+    let room = number(line, tft, LARGEST_ROOM);
+    let asked = Assembly {
+        kind: size(kind.value),
+        bearer: n.first,
+        transaction: n.second,
+        carried: n.third,
+        there: !none,
+        count: size(value.value),
+        room: size(room.value),
+    };
+    if !may_carry(asked.kind, asked.carried) {
+        return bad();
+    }
+    parse_bare(line, room, Question::Assemble(asked))
+}
+
+// What the word asks for. `n` is its numbers, none where they do not stand together, and `value` what its HEX after them was read as, which
+// says nothing where it has none.
+fn parse_word(word: usize, line: &[u8], s: Scan, n: Numbers, value: Scan) -> Command {
     match word {
-        DEFAULT | DEACTIVATE | START | REJECT => parse_call(word, line, s),
-        DEDICATED | MODIFY => parse_valued(word, line, s, value),
+        DEFAULT | DEACTIVATE | START | REJECT => parse_numbered(word, line, n),
+        DEDICATED | MODIFY => parse_valued(word, line, n, value),
         ROUTE => parse_route(line, s),
         CHECK => parse_bare(line, s, Question::Check),
         SHOW => parse_bare(line, s, Question::Show),
@@ -476,7 +530,10 @@ fn parse_word(word: usize, line: &[u8], s: Scan, value: Scan) -> Command {
         ANNOUNCE => parse_announce(line, s),
         PORTION => parse_portion(line, value),
         FINISH => parse_feeding(line, s, Feeding::Finish),
-        FORCE_FED => parse_force_fed(line, s, value),
+        FORCE_FED => parse_force_fed(line, n, value),
+        PARSE => parse_parse(line, value),
+        MESSAGE => parse_message(line, value),
+        ASSEMBLE => parse_assemble(line, s, n, value),
         _ => bad(),
     }
 }
@@ -486,44 +543,43 @@ fn wants_compose(word: usize) -> bool {
     (word == FILTER) | (word == IDENTIFIER) | (word == EMIT)
 }
 
-// How many words stand before the HEX.
-fn words_before(word: usize) -> usize {
-    if (word == DEDICATED) | (word == MODIFY) | (word == FORCE_FED) {
-        numbers_of(word)
-    } else {
-        0
-    }
-}
-
 // An element's value may be what was fed.
 fn takes_fed(word: usize) -> bool {
     (word == DEDICATED) | (word == MODIFY) | (word == ELEMENT) | (word == REWRITE)
 }
 
 // The word's HEX, into `octets`, or what was fed in place of it.
-fn parse_value(word: usize, line: &[u8], at: usize, fed: &[u8], octets: &mut [u8]) -> Scan {
-    let s = scan_from(skip_words(line, at, words_before(word)));
+fn parse_value(word: usize, line: &[u8], s: Scan, fed: &[u8], octets: &mut [u8]) -> Scan {
     let from = skip_spaces(line, s.at);
     let to = word_end(line, from);
     if takes_fed(word) & same(part(line, from, to), b"fed") {
         return Scan {
             at: to,
-            ok: true,
+            ok: s.ok,
             value: copy(fed, octets) as u64,
         };
     }
-    hex(line, s, octets)
+    hex_word(line, s, from, to, octets)
 }
 
-// The line from `at` on. Its HEX is read first, into `octets`, so that nothing else is lent them.
-fn parse(line: &[u8], at: usize, composing: bool, fed: &[u8], octets: &mut [u8]) -> Command {
-    let first = listed(&WORDS, line, scan_from(at));
+// The line from `at` on. Its HEX is read before it is known what it is for, into `octets`, so that nothing else is lent them.
+fn parse(
+    words: &[u8],
+    line: &[u8],
+    at: usize,
+    composing: bool,
+    fed: &[u8],
+    octets: &mut [u8],
+) -> Command {
+    let first = listed(words, line, scan_from(at));
     let word = size(first.value);
-    let value = parse_value(word, line, first.at, fed, octets);
+    let n = read_numbers(line, before_numbers(word, line, first), numbers_of(word));
+    let before = n.scan;
+    let value = parse_value(word, line, before, fed, octets);
     if wants_compose(word) & !composing {
         return bad();
     }
-    parse_word(word, line, first, value)
+    parse_word(word, line, first, n, value)
 }
 
 // Nothing but spaces, or a comment: spaces before its `#` are ignored as at any end of a line.
@@ -569,7 +625,13 @@ fn once(command: Command) -> Asked {
 }
 
 // A whole line. What a `repeat` has after N may be empty, a comment or a `repeat`: none of these is a command, so `parse` finds it bad.
-pub(crate) fn parse_line(line: &[u8], composing: bool, fed: &[u8], octets: &mut [u8]) -> Asked {
+pub(crate) fn parse_line(
+    words: &[u8],
+    line: &[u8],
+    composing: bool,
+    fed: &[u8],
+    octets: &mut [u8],
+) -> Asked {
     let times = times_of(line);
     if !times.ok {
         return once(bad());
@@ -578,7 +640,7 @@ pub(crate) fn parse_line(line: &[u8], composing: bool, fed: &[u8], octets: &mut 
         return once(Command::Ask(Question::Nothing));
     }
     Asked {
-        command: parse(line, times.at, composing, fed, octets),
+        command: parse(words, line, times.at, composing, fed, octets),
         times: times.value,
     }
 }

@@ -103,9 +103,15 @@ fn counted(lines: u64) -> u64 {
 }
 
 // What the word `fed` stands for is in the state.
-fn parse_with(p: Portions, line: &[u8], composing: bool, octets: &mut [u8]) -> Asked {
+fn parse_with(p: Portions, words: &[u8], line: &[u8], composing: bool, octets: &mut [u8]) -> Asked {
     let held = p.octets;
-    parse_line(line, composing, part(&held, 0, p.fed as usize), octets)
+    parse_line(
+        words,
+        line,
+        composing,
+        part(&held, 0, p.fed as usize),
+        octets,
+    )
 }
 
 // The line that the input holds, as one line more, echoed and taken apart. The octets of its HEX, or those that were fed in place of it, are
@@ -113,13 +119,14 @@ fn parse_with(p: Portions, line: &[u8], composing: bool, octets: &mut [u8]) -> A
 fn take_apart(
     reader: Reader,
     input: Input,
+    words: &[u8],
     line: &[u8],
     octets: &mut [u8],
     out: &mut [u8],
     at: usize,
 ) -> Reader {
     let before = reader.portions;
-    let asked = parse_with(before, line, reader.composing, octets);
+    let asked = parse_with(before, words, line, reader.composing, octets);
     let command = asked.command;
     let filter = filter_of(line, command, asked.times);
     let composing = reader.composing | is_compose(command);
@@ -175,9 +182,10 @@ fn put_echo(out: &mut [u8], at: usize, echoing: bool, line: &[u8]) -> usize {
     at
 }
 
-// The next line, read, echoed and taken apart; `at` is where `out` has come to.
+// The next line, read, echoed and taken apart. `words` are those that a line begins with, and `at` is where `out` has come to.
 pub fn read_line(
     reader: Reader,
+    words: &[u8],
     chunk: &mut [u8],
     line: &mut [u8],
     octets: &mut [u8],
@@ -190,5 +198,13 @@ pub fn read_line(
     if !input.found {
         return at_end(reader, input, o);
     }
-    take_apart(reader, input, part(line, 0, input.held), octets, out, o)
+    take_apart(
+        reader,
+        input,
+        words,
+        part(line, 0, input.held),
+        octets,
+        out,
+        o,
+    )
 }

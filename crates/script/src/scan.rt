@@ -95,7 +95,7 @@ pub fn same(a: &[u8], b: &[u8]) -> bool {
 }
 
 // As many octets as there is room for; their count.
-pub(crate) fn copy(from: &[u8], to: &mut [u8]) -> usize {
+pub fn copy(from: &[u8], to: &mut [u8]) -> usize {
     let mut i = 0;
     while i < from.len() && i < to.len() {
         to[i] = from[i];
@@ -207,16 +207,21 @@ fn hex_octets(word: &[u8], octets: &mut [u8]) -> u64 {
     (word.len() / 2) as u64
 }
 
-// The next word as HEX into the octets; its value is their count.
-pub(crate) fn hex(line: &[u8], s: Scan, octets: &mut [u8]) -> Scan {
-    let from = skip_spaces(line, s.at);
-    let to = word_end(line, from);
+// The word from `from` to `to` as HEX into the octets; its value is their count.
+pub(crate) fn hex_word(line: &[u8], s: Scan, from: usize, to: usize, octets: &mut [u8]) -> Scan {
     let n = hex_octets(part(line, from, to), octets);
     Scan {
         at: to,
         ok: s.ok & (n != NO_NUMBER),
         value: n,
     }
+}
+
+// The next word as HEX.
+pub(crate) fn hex(line: &[u8], s: Scan, octets: &mut [u8]) -> Scan {
+    let from = skip_spaces(line, s.at);
+    let to = word_end(line, from);
+    hex_word(line, s, from, to, octets)
 }
 
 // The next word as one octet in HEX.
@@ -260,6 +265,6 @@ pub(crate) fn word_of(n: u64) -> u32 {
     (n % 4294967296) as u32
 }
 
-pub(crate) fn size(n: u64) -> usize {
+pub fn size(n: u64) -> usize {
     (n % 4096) as usize
 }

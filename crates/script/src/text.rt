@@ -97,7 +97,7 @@ fn put_octets(out: &mut [u8], at: usize, octets: &[u8]) -> usize {
 }
 
 // HEX: `-` for no octets.
-pub(crate) fn put_hex(out: &mut [u8], at: usize, octets: &[u8]) -> usize {
+pub fn put_hex(out: &mut [u8], at: usize, octets: &[u8]) -> usize {
     if octets.len() == 0 {
         return put(out, at, b'-');
     }

@@ -3,7 +3,8 @@ use crate::scan::part;
 use crate::scan::same;
 use crate::scan::word_end;
 
-const FIELD: usize = 15;
+// The longest word and its space.
+const FIELD: usize = 20;
 
 // More than any list has.
 const FIELDS: usize = 32;

@@ -1,10 +1,14 @@
 // What a line asks and changes nothing by.
+use crate::esm::put_assembled;
+use crate::esm::put_parsed;
 use crate::replies::put_route;
 use crate::replies::put_well_formed;
 use crate::statuses::put_compared;
 use crate::statuses::put_status;
 use crate::tables::put_table;
+use crate::times::assemble_times;
 use crate::times::check_times;
+use crate::times::parse_times;
 use crate::times::read_times;
 use crate::times::rewrite_times;
 use crate::times::route_times;
@@ -12,6 +16,7 @@ use crate::times::status_times;
 use crate::times::write_times;
 use element::Element;
 use filter::Header;
+use script::command::Assembly;
 use script::command::Question;
 use script::elements::put_bad_line;
 use script::elements::put_cause;
@@ -84,6 +89,17 @@ fn ask_compare(t: Table, value: &[u8], times: u64, out: &mut [u8], at: usize) ->
     put_compared(out, at, written, ours, value)
 }
 
+fn ask_parse(message: &[u8], times: u64, out: &mut [u8], at: usize) -> usize {
+    put_parsed(out, at, parse_times(message, times), message)
+}
+
+fn ask_assemble(asked: Assembly, tft: &[u8], times: u64, out: &mut [u8], at: usize) -> usize {
+    let mut space = [0u8; LARGEST_ROOM];
+    let room = front(&mut space, asked.room);
+    let written = assemble_times(asked, tft, room, times);
+    put_assembled(out, at, written, room)
+}
+
 // The place in the buffer after the reply. `octets` begin with those of the line's HEX, and `lines` is the number of the line.
 pub(crate) fn answer(
     t: Table,
@@ -107,6 +123,10 @@ pub(crate) fn answer(
         Question::Emit(n) => ask_emit(e, n, times, out, at),
         Question::Status(n) => ask_status(t, n, times, out, at),
         Question::Compare(count) => ask_compare(t, part(octets, 0, count), times, out, at),
+        Question::Parse(count) => ask_parse(part(octets, 0, count), times, out, at),
+        Question::Assemble(asked) => {
+            ask_assemble(asked, part(octets, 0, asked.count), times, out, at)
+        }
         // Answered where it was read.
         Question::Feed(_) => at,
     }

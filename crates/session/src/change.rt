@@ -2,6 +2,7 @@
 use crate::times::deactivate_times;
 use crate::times::dedicated_times;
 use crate::times::default_times;
+use crate::times::message_times;
 use crate::times::modify_times;
 use crate::times::reject_times;
 use crate::times::start_times;
@@ -29,8 +30,14 @@ use table::bearer::BEARERS;
 use table::bearer::index_of;
 use table::bearer::is_identity;
 
-// `octets` begin with those of the line's HEX.
-pub(crate) fn call_times(t: Table, call: Call, octets: &[u8], times: u64) -> Outcome {
+// `octets` begin with those of the line's HEX. What a message is answered with is put into `sent`.
+pub(crate) fn call_times(
+    t: Table,
+    call: Call,
+    octets: &[u8],
+    times: u64,
+    sent: &mut [u8],
+) -> Outcome {
     match call {
         Call::Default(bearer) => default_times(t, bearer, times),
         Call::Dedicated {
@@ -48,6 +55,7 @@ pub(crate) fn call_times(t: Table, call: Call, octets: &[u8], times: u64) -> Out
         Call::Start(transaction, bearer) => start_times(t, transaction, bearer, times),
         Call::Reject(transaction, cause) => reject_times(t, transaction, cause, times),
         Call::Synchronise(count) => synchronise_times(t, part(octets, 0, count), times),
+        Call::Message(count) => message_times(t, part(octets, 0, count), times, sent),
     }
 }
 

@@ -2,6 +2,7 @@
 mod ask;
 mod change;
 mod compose;
+mod esm;
 mod replies;
 mod run;
 mod statuses;

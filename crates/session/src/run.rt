@@ -7,8 +7,11 @@ use crate::change::put_by_hand;
 use crate::compose::composed;
 use crate::compose::empty_operation;
 use crate::compose::put_composed;
+use crate::esm::SENT_ROOM;
+use crate::esm::put_sent;
 use crate::replies::put_reply;
 use script::command::Command;
+use script::parse::WORDS;
 use script::reader::LINE_ROOM;
 use script::reader::read_line;
 use script::reader::start_reader;
@@ -21,26 +24,29 @@ use table::Table;
 fn run_lines(
     mut t: Table,
     echoing: bool,
+    words: &[u8],
     chunk: &mut [u8],
     line: &mut [u8],
     octets: &mut [u8],
     out: &mut [u8],
+    sent: &mut [u8],
 ) {
     let mut e = empty_operation(element::Answer::Identifiers);
     let mut at = 0;
     let mut reader = start_reader(echoing);
     let mut turns = u64::MAX;
     while turns > 0 && !reader.ended {
-        reader = read_line(reader, chunk, line, octets, out, at);
+        reader = read_line(reader, words, chunk, line, octets, out, at);
         at = reader.at;
         let command = judged(reader);
         let f = reader.filter;
         match command {
             Command::Call(wanted) => {
-                let outcome = call_times(t, wanted, octets, reader.times);
+                let outcome = call_times(t, wanted, octets, reader.times, sent);
                 t = outcome.table;
                 let reply = outcome.reply;
                 at = put_reply(out, at, reply);
+                at = put_sent(out, at, wanted, sent);
             }
             Command::Hand(wanted) => {
                 t = by_hand(t, wanted, f);
@@ -59,16 +65,20 @@ fn run_lines(
 }
 
 pub(crate) fn run_all(echoing: bool) {
+    let words = WORDS;
     let mut chunk = io::buffer();
     let mut line = [0u8; LINE_ROOM];
     let mut octets = [0u8; MOST_OCTETS];
     let mut out = io::buffer();
+    let mut sent = [0u8; SENT_ROOM];
     run_lines(
         table::bearer::empty_table(),
         echoing,
+        &words,
         &mut chunk,
         &mut line,
         &mut octets,
         &mut out,
+        &mut sent,
     );
 }

@@ -1,4 +1,6 @@
 // What a line asks for, as often as it asks.
+use crate::esm::keep_answer;
+use crate::esm::kind_at;
 use crate::statuses::active_in;
 use crate::statuses::gone_between;
 use calls::FollowUps;
@@ -7,6 +9,9 @@ use calls::Reply;
 use element::Element;
 use element::Written;
 use filter::Header;
+use messages::MessageWritten;
+use messages::Parsed;
+use script::command::Assembly;
 use status::StatusWritten;
 use table::Table;
 use table::bearer::BEARERS;
@@ -38,55 +43,6 @@ pub(crate) fn default_times(mut t: Table, bearer: u8, times: u64) -> Outcome {
     Outcome { table: t, reply }
 }
 
-pub(crate) fn dedicated_times(
-    mut t: Table,
-    bearer: u8,
-    link: u8,
-    transaction: u8,
-    value: &[u8],
-    times: u64,
-) -> Outcome {
-    let mut reply = no_reply();
-    let mut i = 0;
-    while i < times {
-        let outcome = calls::activate::activate_dedicated(t, bearer, link, transaction, value);
-        t = outcome.table;
-        reply = outcome.reply;
-        i += 1;
-    }
-    Outcome { table: t, reply }
-}
-
-pub(crate) fn modify_times(
-    mut t: Table,
-    bearer: u8,
-    transaction: u8,
-    value: &[u8],
-    times: u64,
-) -> Outcome {
-    let mut reply = no_reply();
-    let mut i = 0;
-    while i < times {
-        let outcome = calls::modify::modify(t, bearer, transaction, value);
-        t = outcome.table;
-        reply = outcome.reply;
-        i += 1;
-    }
-    Outcome { table: t, reply }
-}
-
-pub(crate) fn deactivate_times(mut t: Table, bearer: u8, transaction: u8, times: u64) -> Outcome {
-    let mut reply = no_reply();
-    let mut i = 0;
-    while i < times {
-        let outcome = calls::deactivate::deactivate(t, bearer, transaction);
-        t = outcome.table;
-        reply = outcome.reply;
-        i += 1;
-    }
-    Outcome { table: t, reply }
-}
-
 pub(crate) fn start_times(mut t: Table, transaction: u8, bearer: u8, times: u64) -> Outcome {
     let mut reply = no_reply();
     let mut i = 0;
@@ -99,16 +55,79 @@ pub(crate) fn start_times(mut t: Table, transaction: u8, bearer: u8, times: u64)
     Outcome { table: t, reply }
 }
 
-pub(crate) fn reject_times(mut t: Table, transaction: u8, cause: u8, times: u64) -> Outcome {
+// The answer of the last time is left in `sent`.
+pub(crate) fn message_times(mut t: Table, message: &[u8], times: u64, sent: &mut [u8]) -> Outcome {
     let mut reply = no_reply();
     let mut i = 0;
     while i < times {
-        let outcome = calls::deactivate::reject(t, transaction, cause);
+        let handled = messages::handle::handle(t, message);
+        let outcome = handled.outcome;
         t = outcome.table;
         reply = outcome.reply;
+        keep_answer(handled.answer, sent);
         i += 1;
     }
     Outcome { table: t, reply }
+}
+
+// A message is handled by these four calls too, so that each is a function of its own in any case; then an outcome is best handed on whole.
+pub(crate) fn dedicated_times(
+    t: Table,
+    bearer: u8,
+    link: u8,
+    transaction: u8,
+    value: &[u8],
+    times: u64,
+) -> Outcome {
+    let mut outcome = calls::activate::activate_dedicated(t, bearer, link, transaction, value);
+    let mut i = 1;
+    while i < times {
+        outcome = calls::activate::activate_dedicated(
+            outcome.table,
+            bearer,
+            link,
+            transaction,
+            value,
+        );
+        i += 1;
+    }
+    outcome
+}
+
+pub(crate) fn modify_times(
+    t: Table,
+    bearer: u8,
+    transaction: u8,
+    value: &[u8],
+    times: u64,
+) -> Outcome {
+    let mut outcome = calls::modify::modify(t, bearer, transaction, value);
+    let mut i = 1;
+    while i < times {
+        outcome = calls::modify::modify(outcome.table, bearer, transaction, value);
+        i += 1;
+    }
+    outcome
+}
+
+pub(crate) fn deactivate_times(t: Table, bearer: u8, transaction: u8, times: u64) -> Outcome {
+    let mut outcome = calls::deactivate::deactivate(t, bearer, transaction);
+    let mut i = 1;
+    while i < times {
+        outcome = calls::deactivate::deactivate(outcome.table, bearer, transaction);
+        i += 1;
+    }
+    outcome
+}
+
+pub(crate) fn reject_times(t: Table, transaction: u8, cause: u8, times: u64) -> Outcome {
+    let mut outcome = calls::deactivate::reject(t, transaction, cause);
+    let mut i = 1;
+    while i < times {
+        outcome = calls::deactivate::reject(outcome.table, transaction, cause);
+        i += 1;
+    }
+    outcome
 }
 
 // Called in two places, so that it stays a function of its own: taken into the loop, it is compiled with the table in pieces.
@@ -205,6 +224,44 @@ pub(crate) fn rewrite_times(value: &[u8], room: &mut [u8], times: u64) -> Writte
     let mut i = 1;
     while i < times {
         written = write_once(element::read::read(value), room);
+        i += 1;
+    }
+    written
+}
+
+pub(crate) fn parse_times(message: &[u8], times: u64) -> Parsed {
+    let mut parsed = messages::read::read_message(message);
+    let mut i = 1;
+    while i < times {
+        parsed = messages::read::read_message(message);
+        i += 1;
+    }
+    parsed
+}
+
+fn assemble_once(asked: Assembly, tft: &[u8], room: &mut [u8]) -> MessageWritten {
+    fill(room);
+    let kind = kind_at(asked.kind, asked.carried);
+    messages::write::write_message(
+        kind,
+        asked.bearer,
+        asked.transaction,
+        asked.there,
+        tft,
+        room,
+    )
+}
+
+pub(crate) fn assemble_times(
+    asked: Assembly,
+    tft: &[u8],
+    room: &mut [u8],
+    times: u64,
+) -> MessageWritten {
+    let mut written = assemble_once(asked, tft, room);
+    let mut i = 1;
+    while i < times {
+        written = assemble_once(asked, tft, room);
         i += 1;
     }
     written
