@@ -18,6 +18,10 @@ module _ {A : Type 0} (P : A → Type 0) where
   all-append [] ys h g = g
   all-append (x ∷ xs) ys h g = (h .0, all-append xs ys (h .1) g)
 
+  pub all-among : (xs : List A) (a : A) (ys : List A) → All P (xs ++ a ∷ ys) → P a
+  all-among [] a ys h = h .0
+  all-among (x ∷ xs) a ys h = all-among xs a ys (h .1)
+
   pub all-set : (xs : List A) (i : ℕ) (a : A) → All P xs → P a → All P (set xs i a)
   all-set [] i a h p = tt
   all-set (x ∷ xs) zero a h p = (p, h .1)

@@ -1,13 +1,14 @@
 -- Repeats by marks: a walk that marks each number as it comes finds a number marked already exactly where one is there twice, however the marks are kept.
-use mathlib.Core.Path.{_≡_, refl, ap, ap₂, _∙_}
+use mathlib.Core.Path.{_≡_, refl, sym, ap, ap₂, _∙_}
 use mathlib.Core.Bool.{Bool, true, false, _||_, or-false}
-use mathlib.Core.List.{List, [], _∷_}
+use mathlib.Core.List.{List, [], _∷_, _++_}
 use Prim.Native.Nat.{ℕ, _<_}
 use lib.Dec.{eqb}
 use lib.ListN.{length, getD, set, length-set, replicate, length-replicate, getD-replicate}
 use Rattle.laws.specs.Says.{pick}
 use Rattle.laws.specs.Lists.{All, isIn, repeats}
 use Rattle.laws.proofs.Index.{set-seen}
+use Rattle.laws.proofs.Says.{says-eq, says-so, says-same}
 
 swap : (i m j a : Bool) → (i || m) || (a || j) ≡ (m || a) || (i || j)
 swap true true j a = refl
@@ -90,3 +91,50 @@ bools-tell n =
 
 pub bools-repeat : (n : ℕ) (xs : List ℕ) → All (λ x. x < n) xs → again isMarked withMark xs (replicate n false) false ≡ repeats xs
 bools-repeat n xs h = again-repeats isMarked withMark (bools-tell n) xs (replicate n false) (length-replicate n false) (λ x l. getD-replicate n x false false l) h
+
+-- ---- the numbers themselves, in a list
+abbrev pub isListed : List ℕ → ℕ → Bool
+isListed xs x = isIn x xs
+
+abbrev pub withListed : List ℕ → ℕ → List ℕ
+withListed xs x = xs ++ x ∷ []
+
+eqb-turned : (x y : ℕ) → eqb x y ≡ eqb y x
+eqb-turned x y = says-same (says-eq x y) (says-so (says-eq y x) sym sym)
+
+in-with : (xs : List ℕ) (x y : ℕ) → isIn y (xs ++ x ∷ []) ≡ eqb x y || isIn y xs
+unfolding isIn
+in-with [] x y = ap (λ (b : Bool). b || false) (eqb-turned y x)
+in-with (z ∷ xs) x y = rw (in-with xs x y) (go (eqb y z) (eqb x y) (isIn y xs))
+  where
+    go : (a b c : Bool) → a || (b || c) ≡ b || (a || c)
+    go true true c = refl
+    go true false c = refl
+    go false b c = refl
+
+listed-tell : Tells isListed withListed (λ xs. Unit {0}) (λ x. Unit {0})
+listed-tell = record { keeps = λ xs x o. tt; marks = λ xs x y o g h. in-with xs x y }
+
+all-listed : (xs : List ℕ) → All (λ x. Unit {0}) xs
+all-listed [] = tt
+all-listed (x ∷ xs) = (tt, all-listed xs)
+
+pub listed-repeat : (xs : List ℕ) → again isListed withListed xs [] false ≡ repeats xs
+unfolding isIn
+listed-repeat xs = again-repeats isListed withListed listed-tell xs [] tt (λ x g. refl) (all-listed xs)
+
+-- ---- Bools that mark exactly these numbers
+pub record Marks (n : ℕ) (marks : List Bool) (xs : List ℕ) : Type 0 where
+  pub long : length marks ≡ n
+  pub tells : (x : ℕ) → x < n → isMarked marks x ≡ isIn x xs
+
+pub marks-none : (n : ℕ) → Marks n (replicate n false) []
+unfolding isIn
+marks-none n = record { long = length-replicate n false; tells = λ x l. getD-replicate n x false false l }
+
+pub marks-more : (n : ℕ) (marks : List Bool) (xs : List ℕ) (y : ℕ) → y < n → Marks n marks xs → Marks n (withMark marks y) (xs ++ y ∷ [])
+marks-more n marks xs y h m =
+    record {
+      long = bools-tell n .keeps marks y (m .long);
+      tells = λ x l. bools-tell n .marks marks y x (m .long) h l ∙ ap (λ (b : Bool). eqb y x || b) (m .tells x l) ∙ sym (in-with xs y x);
+    }
