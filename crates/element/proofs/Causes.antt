@@ -1,4 +1,4 @@
--- Where the reader gives each of its causes: the step that refuses the value, and none before it.
+-- Where the reader gives each of its causes: the step that refuses the value, and none before it. Places have no part in it.
 use mathlib.Core.Path.{_≡_, refl, sym, _∙_, ap, subst}
 use mathlib.Core.Bool.{Bool, true, false, false≢true, _&&_}
 use mathlib.Core.Logic.{_⊎_, inl, inr, _↔_}
@@ -23,9 +23,10 @@ use Rattle.element.specs.declared.contents.Coded.the-variants.{Badly, We
 use Rattle.element.specs.Head.{longest}
 use Rattle.element.specs.Numbers.{causeNumber, numberOf}
 use Rattle.element.specs.Framing.{Raw, identifierOf, Framed, notFramed, filters, identifiers, bare, framedOf}
-use Rattle.element.specs.Read.{refused, Entry, entryFittable, codedOf, Entries, badly, coded, withEntry, entriesOf, twice, filterSet, judgedEntries, judgedFrame, readValue, readElement}
+use Rattle.element.specs.Read.{refused, Entry, entryFittable, Entries, badly, coded, withEntry, entriesOf, twice, filterSet, judgedEntries, judgedFrame, readValue, unplaced}
+use Rattle.element.specs.Contents.{codedOf}
 use Rattle.element.specs.Meaning.{Octet, NoPacketFits, FilterList, CodedList, TooLongOrUnframed, SomeFilterBadlyCoded, SomeFilterUnfit, SomethingTwice}
-use Rattle.element.proofs.Decoded.{EntryDecoded, FramedInto, framed-into, EntriesInto, entries-into}
+use Rattle.element.proofs.Decoded.{EntryDecoded, list-decoded}
 
 -- ---- The numbers tell the causes apart, and from no cause
 pub some-number : {A : Type 0} (cause : Cause) → causeNumber cause ≡ 0 → A
@@ -102,12 +103,6 @@ module _ (xs : List ℕ) where
   Why (Bare operation) = Unit {0}
   Why (Refused refusal) = Known (refusal .cause) → Refuses (refusal .cause)
 
-  -- what octets are coded as is in the ranges of the code's types
-  list-decoded : All Octet xs → (l : CodedList xs) → All EntryDecoded (l .entries)
-  list-decoded octets l =
-      let raws : FramedInto (filters (l .list .operation) (l .list .raws)) = subst FramedInto (l .list .framed) (framed-into xs octets) in
-      subst (EntriesInto (length (l .list .raws))) (l .decoded) (entries-into (l .list .raws) (raws .1)) .1
-
   -- ---- From what the reader gives to why
   abbrev WhyGiven : Element → Type 0
   WhyGiven e = Why (e .answer)
@@ -116,8 +111,8 @@ module _ (xs : List ℕ) where
   coded-why l =
       by-test WhyGiven (every entryFittable (l .entries)) _ _
       (λ f. by-test WhyGiven (twice (l .entries)) (refused Coding) (filterSet (l .list .operation) (l .entries))
-      (λ again octets. inr (record { list = l; fit = every-says (l .entries) (list-decoded octets l) .to f; again = again })) (λ again. tt))
-      (λ f octets. record { list = l; unfit = some-unfit (l .entries) (list-decoded octets l) f })
+      (λ again octets. inr (record { list = l; fit = every-says (l .entries) (list-decoded xs octets l) .to f; again = again })) (λ again. tt))
+      (λ f octets. record { list = l; unfit = some-unfit (l .entries) (list-decoded xs octets l) f })
 
   entries-why : (l : FilterList xs) (E : Entries) → entriesOf (l .raws) ≡ E → WhyGiven (judgedEntries (l .operation) E)
   entries-why l badly q = λ octets. inl (record { list = l; badly = some-badly (l .raws) q })
@@ -130,23 +125,23 @@ module _ (xs : List ℕ) where
   frame-why short (identifiers ys) q = tt
   frame-why short (bare operation) q = tt
 
-  why : Why (readElement xs .answer)
-  unfolding readElement readValue
+  why : Why (unplaced xs .answer)
+  unfolding unplaced readValue
   why =
       by-test WhyGiven (leb (length xs) longest) (judgedFrame (framedOf xs)) (refused Operation)
       (λ l. frame-why (leb-true (length xs) longest l) (framedOf xs) refl)
       (λ l _. inl (λ short. let long = leb-false (length xs) longest l in omega arith))
 
   -- ---- From why to what the reader gives
-  list-read : (l : FilterList xs) → readElement xs ≡ judgedEntries (l .operation) (entriesOf (l .raws))
-  unfolding readElement readValue
+  list-read : (l : FilterList xs) → unplaced xs ≡ judgedEntries (l .operation) (entriesOf (l .raws))
+  unfolding unplaced readValue
   list-read l = rw (le-leb (length xs) longest (l .short), l .framed)
 
-  coded-read : (l : CodedList xs) → readElement xs ≡ judgedEntries (l .list .operation) (coded (l .entries))
+  coded-read : (l : CodedList xs) → unplaced xs ≡ judgedEntries (l .list .operation) (coded (l .entries))
   coded-read l = list-read (l .list) ∙ ap (judgedEntries (l .list .operation)) (l .decoded)
 
-  refuses : (cause : Cause) → Known cause → Refuses cause → readElement xs ≡ refused cause
-  unfolding readElement readValue
+  refuses : (cause : Cause) → Known cause → Refuses cause → unplaced xs ≡ refused cause
+  unfolding unplaced readValue
   refuses Operation known (inl long) = rw (says-no (says-le (length xs) longest) long)
   refuses Operation known (inr q) = rw q (go (leb (length xs) longest))
     where
@@ -155,11 +150,11 @@ module _ (xs : List ℕ) where
       go false = refl
   refuses Semantics octets s =
       let u : every entryFittable (s .list .entries) ≡ false
-      = says-no (every-says (s .list .entries) (list-decoded octets (s .list))) (unfit-not-fit (s .list .entries) (s .unfit)) in
+      = says-no (every-says (s .list .entries) (list-decoded xs octets (s .list))) (unfit-not-fit (s .list .entries) (s .unfit)) in
       coded-read (s .list) ∙ rw u
   refuses Coding octets (inl s) = list-read (s .list) ∙ rw (entries-badly (s .list .raws) (s .badly))
   refuses Coding octets (inr s) =
-      coded-read (s .list) ∙ rw (every-says (s .list .entries) (list-decoded octets (s .list)) .from (s .fit), s .again)
+      coded-read (s .list) ∙ rw (every-says (s .list .entries) (list-decoded xs octets (s .list)) .from (s .fit), s .again)
 
   told : (a : Answer) (cause : Cause) → numberOf a ≡ causeNumber cause → Why a → Known cause → Refuses cause
   told (Filters operation) cause q w = some-number cause (sym q)
@@ -168,6 +163,6 @@ module _ (xs : List ℕ) where
   told (Refused refusal) cause q w = subst (λ (c : Cause). Known c → Refuses c) (same-cause (refusal .cause) cause q) w
 
   -- the reader gives a cause's number exactly where its steps refuse the value
-  pub cause-says : (cause : Cause) → Known cause → (numberOf (readElement xs .answer) ≡ causeNumber cause) ↔ Refuses cause
+  pub cause-says : (cause : Cause) → Known cause → (numberOf (unplaced xs .answer) ≡ causeNumber cause) ↔ Refuses cause
   cause-says cause known =
-      (λ q. told (readElement xs .answer) cause q why known, λ r. ap (λ (e : Element). numberOf (e .answer)) (refuses cause known r))
+      (λ q. told (unplaced xs .answer) cause q why known, λ r. ap (λ (e : Element). numberOf (e .answer)) (refuses cause known r))

@@ -1,5 +1,5 @@
 -- What the reader decodes from octets: every number in its range, and every filter well coded.
-use mathlib.Core.Path.{_≡_, refl, ap}
+use mathlib.Core.Path.{_≡_, refl, ap, subst}
 use mathlib.Core.Bool.{Bool, true, false, not, _&&_, _||_}
 use mathlib.Core.List.{List, [], _∷_}
 use Prim.Native.Nat.{ℕ, zero, suc, _+_, _*_, _%_, _^_, _≤_, _<_}
@@ -36,10 +36,10 @@ use Rattle.element.specs.declared.answer.BareOperation.{BareOperation}
 use Rattle.element.specs.declared.answer.BareOperation.the-variants.{DeleteTft, NoOperation}
 use Rattle.element.specs.declared.contents.Coded.{Coded}
 use Rattle.element.specs.declared.contents.Coded.the-variants.{Badly, Well}
-use Rattle.element.specs.Contents.{lengthOf, known, addressOf, componentOf, contentsFrom, contentsOf}
+use Rattle.element.specs.Contents.{lengthOf, known, addressOf, componentOf, contentsFrom, contentsOf, codedOf}
 use Rattle.element.specs.Framing.{Raw, identifierOf, directionOf, Split, cut, split, withRaw, splitOf, restFits, Framed, notFramed, filters, identifiers, bare as bareFrame, framedSplit, framedSet, framedIdentifiers, framedBare, framedBy, framedOf}
-use Rattle.element.specs.Read.{Entry, codedOf, Entries, badly, coded, withEntry, entriesOf}
-use Rattle.element.specs.Meaning.{Octet}
+use Rattle.element.specs.Read.{Entry, Entries, badly, coded, withEntry, entriesOf}
+use Rattle.element.specs.Meaning.{Octet, FilterList, CodedList}
 
 -- whichever a test picks
 -- ---- A component, from the octets of its value
@@ -322,10 +322,22 @@ with-entry n i Badly es l d h = tt
 with-entry n i (Well f) badly l d h = tt
 with-entry n i (Well f) (coded es) l d h = (ap suc (h .0), (record { identifier = l; filter = d }, h .1))
 
+pub raw-decoded : (r : Raw) → RawOctets r → DecodedAs (codedOf r)
+unfolding codedOf
+raw-decoded r h = contents-decoded (r .precedence) (directionOf r) (r .contents) (h .precedence) (omega arith) (h .contents)
+
 pub entries-into : (rs : List Raw) → All RawOctets rs → EntriesInto (length rs) (entriesOf rs)
-unfolding entriesOf codedOf
+unfolding entriesOf
 entries-into [] h = (refl, tt)
 entries-into (r ∷ rs) h =
-    with-entry (length rs) (identifierOf r) (codedOf r) (entriesOf rs) (omega arith)
-    (contents-decoded (r .precedence) (directionOf r) (r .contents) (h .0 .precedence) (omega arith) (h .0 .contents))
-    (entries-into rs (h .1))
+    with-entry (length rs) (identifierOf r) (codedOf r) (entriesOf rs) (omega arith) (raw-decoded r (h .0)) (entries-into rs (h .1))
+
+-- ---- What a value of octets is framed and coded as
+module _ (xs : List ℕ) (octets : All Octet xs) where
+  pub list-octets : (l : FilterList xs) → All RawOctets (l .raws)
+  list-octets l =
+      let into : FramedInto (filters (l .operation) (l .raws)) = subst FramedInto (l .framed) (framed-into xs octets) in
+      into .1
+
+  pub list-decoded : (l : CodedList xs) → All EntryDecoded (l .entries)
+  list-decoded l = subst (EntriesInto (length (l .list .raws))) (l .decoded) (entries-into (l .list .raws) (list-octets (l .list))) .1

@@ -15,7 +15,7 @@ use Rattle.laws.proofs.Parts.{drop-next}
 use Rattle.element.specs.declared.framing.Place.{Place}
 use Rattle.element.specs.declared.framing.Place.the-variants.{Cut, At}
 use Rattle.element.specs.Framing.{Raw, Split, cut, split, withRaw, splitOf, parameters, restFits}
-use Rattle.element.specs.inner.Walk.{partBy, partEnd, placeOf, rawAt}
+use Rattle.element.specs.inner.Walk.{partBy, partEnd, endOf, rawAt}
 
 -- ---- the end of a part is past its start, and not past the end of all
 by-inside : (total from l next : ℕ) (b : Bool) → leb l (total - from) ≡ b → pick b (At (from + l)) Cut ≡ At next → from ≤ total → (from ≤ next) × (next ≤ total)
@@ -143,23 +143,23 @@ filter-next n s at = by (ltb (at + 2) (length s)) refl
 -- the end of the filters that are left, after the end of one
 abbrev pub endFrom : ℕ → List ℕ → Place → Place
 endFrom n s Cut = Cut
-endFrom n s (At next) = placeOf (length s) (splitOf n (drop next s))
+endFrom n s (At next) = endOf (length s) (splitOf n (drop next s))
 
-place-after : (total : ℕ) (r : Raw) (x : Split) → placeOf total (withRaw r x) ≡ placeOf total x
+place-after : (total : ℕ) (r : Raw) (x : Split) → endOf total (withRaw r x) ≡ endOf total x
 place-after total r cut = refl
 place-after total r (split rs rest) = refl
 
 pub entry-next : (n i : ℕ) → i < n → (s : List ℕ) (at : ℕ)
-    → placeOf (length s) (splitOf (n - i) (drop at s)) ≡ endFrom (n - (i + 1)) s (partEnd s at 2)
+    → endOf (length s) (splitOf (n - i) (drop at s)) ≡ endFrom (n - (i + 1)) s (partEnd s at 2)
 entry-next n i h s at =
     let e : n - i ≡ suc (n - (i + 1)) = omega arith in
     rw (e, filter-next (n - (i + 1)) s at) (by (partEnd s at 2))
   where
-    by : (x : Place) → placeOf (length s) (splitFrom (n - (i + 1)) s (rawAt s at) x) ≡ endFrom (n - (i + 1)) s x
+    by : (x : Place) → endOf (length s) (splitFrom (n - (i + 1)) s (rawAt s at) x) ≡ endFrom (n - (i + 1)) s x
     by Cut = refl
     by (At next) = place-after (length s) (rawAt s at) (splitOf (n - (i + 1)) (drop next s))
 
-pub entries-done : (n i : ℕ) → n ≤ i → (s : List ℕ) (at : ℕ) → at ≤ length s → placeOf (length s) (splitOf (n - i) (drop at s)) ≡ At at
+pub entries-done : (n i : ℕ) → n ≤ i → (s : List ℕ) (at : ℕ) → at ≤ length s → endOf (length s) (splitOf (n - i) (drop at s)) ≡ At at
 unfolding splitOf
 entries-done n i h s at g =
     let e : n - i ≡ 0 = omega arith in

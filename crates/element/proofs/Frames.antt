@@ -17,11 +17,11 @@ use Rattle.element.specs.declared.framing.Place.the-variants.{Cut, At}
 use Rattle.element.specs.declared.framing.Frame.the-variants.{NotFramed, Filters, Identifiers, Bare}
 use Rattle.element.specs.Head.{operationIn, extensionIn, countIn, create, deleteTft, add, replace, deleteFilters, noOperation}
 use Rattle.element.specs.Framing.{Raw, Split, cut, split, splitOf, restFits, Framed, notFramed, filters, identifiers, bare, framedSplit, framedSet, framedIdentifiers, framedBare, framedBy, framedOf}
-use Rattle.element.specs.inner.Walk.{placeOf, frameOf, whole}
+use Rattle.element.specs.inner.Walk.{endOf, frameOf, whole}
 use Rattle.element.proofs.Splitting.{rest-at, split-count}
 
 -- ---- a list of filters, from the place where it ends
-pub set-cut : (operation : SetOperation) (e total : ℕ) (q : Split) → placeOf total q ≡ Cut → frameOf (framedSplit operation e q) ≡ NotFramed
+pub set-cut : (operation : SetOperation) (e total : ℕ) (q : Split) → endOf total q ≡ Cut → frameOf (framedSplit operation e q) ≡ NotFramed
 set-cut operation e total cut h = refl
 set-cut operation e total (split rs rest) h = let z : _≡_ {A = ℕ} 0 1 = cc in absurd (omega arith)
 
@@ -31,17 +31,17 @@ record Parts (n : ℕ) (s : List ℕ) (at : ℕ) : Type 0 where
   rest : splitOf n s ≡ split raws (drop at s)
   within : at ≤ length s
 
-parts : (n : ℕ) (s : List ℕ) (at : ℕ) → placeOf (length s) (splitOf n s) ≡ At at → Parts n s at
+parts : (n : ℕ) (s : List ℕ) (at : ℕ) → endOf (length s) (splitOf n s) ≡ At at → Parts n s at
 parts n s at h = go (splitOf n s) refl h
   where
-    go : (q : Split) → splitOf n s ≡ q → placeOf (length s) q ≡ At at → Parts n s at
+    go : (q : Split) → splitOf n s ≡ q → endOf (length s) q ≡ At at → Parts n s at
     go cut e h = let z : _≡_ {A = ℕ} 0 1 = cc in absurd (omega arith)
     go (split rs rest) e h =
         let k : length s - length rest ≡ at = cc in
         let p = rest-at n s rs rest e in
         record { raws = rs; rest = e ∙ ap (split rs) (sym (p .1) ∙ ap (λ (m : ℕ). drop m s) k); within = omega arith }
 
-module _ (n : ℕ) (s : List ℕ) (at : ℕ) (ends : placeOf (length s) (splitOf n s) ≡ At at) where
+module _ (n : ℕ) (s : List ℕ) (at : ℕ) (ends : endOf (length s) (splitOf n s) ≡ At at) where
   pub set-within : at ≤ length s
   set-within = parts n s at ends .within
 

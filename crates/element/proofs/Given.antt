@@ -1,5 +1,5 @@
 -- What the reader can give: every operation read is one that the writer takes.
-use mathlib.Core.Path.{_≡_, refl, _∙_}
+use mathlib.Core.Path.{_≡_, refl, sym, ap, _∙_}
 use mathlib.Core.Bool.{Bool, true, false, not, _&&_}
 use mathlib.Core.List.{List, [], _∷_, map}
 use Prim.Native.Nat.{ℕ, _%_, _<_}
@@ -23,12 +23,13 @@ use Rattle.element.specs.declared.answer.Element.{Element}
 use Rattle.element.specs.Numbers.{numberOf}
 use Rattle.filter.specs.Sizes.{placeCount}
 use Rattle.filter.specs.Build.{emptyFilter}
-use Rattle.element.specs.Read.{noFilters, noMarks, withoutSets, refused, Entry, precedenceOf, entryFittable, Entries, badly, coded, entriesOf, twice, inPlaces, filterSet, marked, identifierSet, judgedEntries, judgedFrame, readValue, readElement}
+use Rattle.element.specs.Read.{noFilters, noMarks, withoutSets, refused, Entry, precedenceOf, entryFittable, Entries, badly, coded, entriesOf, twice, inPlaces, filterSet, marked, identifierSet, judgedEntries, judgedFrame, readValue, unplaced, readElement}
 use Rattle.element.specs.Framing.{Framed, notFramed, filters, identifiers, bare, framedOf}
 use Rattle.element.specs.Write.{entriesFrom, oneToFifteen, rowGiven, marksFrom, marksGiven, given}
 use Rattle.element.specs.Meaning.{Octet, ElementInRange}
 use Rattle.element.proofs.Decoded.{well-coded, EntryDecoded, OneTo15, FramedInto, framed-into, EntriesInto, entries-into}
 use Rattle.element.proofs.Causes.{some-number}
+use Rattle.element.proofs.Placing.{read-number, read-same}
 use Rattle.element.proofs.Laid.{precedences, entries-precedences, entries-count, distinct, laid-first, laid-every, marked-few, marked-some}
 
 -- ---- Every operation read is one that the writer takes.
@@ -118,8 +119,8 @@ row-distinct row g =
 
 -- what a value of at most 255 octets says
 pub element-given : (xs : List ℕ) → All Octet xs → numberOf (readElement xs .answer) ≡ 0 → given (readElement xs) ≡ true
-unfolding readElement
-element-given xs octets = go (leb (length xs) 255)
+unfolding unplaced
+element-given xs octets q = ap given (read-same xs q) ∙ go (leb (length xs) 255) (sym (read-number xs) ∙ q)
   where
     go : (b : Bool) → numberOf (pick b (readValue xs) (refused Operation) .answer) ≡ 0 → given (pick b (readValue xs) (refused Operation)) ≡ true
     go true q = reads-given xs octets q
@@ -164,8 +165,8 @@ frame-in-range (identifiers xs) h = record { filters = none-in-range; marks = ma
 frame-in-range (bare operation) h = without-in-range (judgedFrame (bare operation) .answer)
 
 pub read-in-range : (xs : List ℕ) → All Octet xs → ElementInRange (readElement xs)
-unfolding readElement readValue
-read-in-range xs octets = go (leb (length xs) 255)
+unfolding readElement unplaced readValue
+read-in-range xs octets = let r = go (leb (length xs) 255) in record { filters = r .filters; marks = r .marks }
   where
     go : (b : Bool) → ElementInRange (pick b (judgedFrame (framedOf xs)) (refused Operation))
     go true = frame-in-range (framedOf xs) (framed-into xs octets)

@@ -1,20 +1,21 @@
--- The filters judged one after the other, each decoded once, are judged as the reader's steps 7, 8 and 9 say, each over every filter; and the parts that
--- are made of a value, by how it is framed, are those of the element that the reader gives.
-use mathlib.Core.Path.{_≡_, refl, sym, _∙_}
-use mathlib.Core.Bool.{Bool, true, false, not, _&&_, _||_, or-false}
-use mathlib.Core.List.{List, [], _∷_, map}
-use Prim.Native.Nat.{ℕ, zero, suc, _≤_, _<_}
+-- The filters judged one after the other, each decoded once, are judged as the reader's steps 7, 8 and 9 say, each over every filter, and the place is that of the
+-- earliest; and the parts that are made of a value, by how it is framed, are those of the element that the reader gives.
+use mathlib.Core.Path.{_≡_, refl, ap, _∙_}
+use mathlib.Core.Bool.{Bool, true, false, not}
+use mathlib.Core.List.{List, [], _∷_, _++_, map, map-append}
+use mathlib.Core.Logic.{⊎-elim}
+use Prim.Native.Nat.{ℕ, _+_, _≤_, _<_}
 use native.Mathlib.Omega.{arith}
-use lib.Dec.{leb}
-use lib.ListN.{length, take, drop, getD}
+use lib.Dec.{eqb, leb}
+use lib.ListN.{length, drop, length-drop, length-append}
+use borrow.Author.Tests.{leb-true, eqb-true, ne-eqb}
 use Rattle.laws.specs.Says.{pick}
 use Rattle.laws.specs.Lists.{All, every, fold}
+use Rattle.laws.proofs.Says.{picked}
 use Rattle.laws.proofs.Parts.{all-drop}
-use Rattle.laws.proofs.Marks.{again, isMarked, withMark, bools-repeat}
+use Rattle.laws.proofs.Marks.{Marks, marks-none, marks-more}
 use Rattle.filter.specs.declared.component.Filter.{Filter}
-use Rattle.filter.specs.Build.{excluded, added, bare}
-use Rattle.filter.specs.Sizes.{placeCount}
-use Rattle.filter.proofs.Adding.{SameStart, added-start}
+use Rattle.filter.specs.Sizes.{placeCount, precedenceCount}
 use Rattle.element.specs.declared.answer.SetOperation.{SetOperation}
 use Rattle.element.specs.declared.answer.Cause.the-variants.{Operation, Semantics, Coding}
 use Rattle.element.specs.declared.answer.Answer.the-variants.{Filters}
@@ -24,180 +25,150 @@ use Rattle.element.specs.declared.contents.Coded.the-variants.{Badly, We
 use Rattle.element.specs.declared.framing.Frame.{Frame}
 use Rattle.element.specs.declared.judge.Judged.{Judged}
 use Rattle.element.specs.Head.{longest}
-use Rattle.element.specs.Read.{noFilters, noMarks, refused, Entry, precedenceOf, entryFittable, codedOf, Entries, badly, coded, withEntry, entriesOf, twice, inPlaces, judgedEntries, judgedFrame, readValue, readElement}
-use Rattle.element.specs.Contents.{lengthOf, known, componentOf, contentsFrom, contentsOf}
-use Rattle.element.specs.Framing.{Raw, identifierOf, directionOf, splitOf, Framed, notFramed, filters, identifiers, bare as bareFramed, framedOf}
-use Rattle.element.specs.inner.Walk.{frameOf, whole, noPrecedences, Found, foundStart, foundWith, foundRaw, foundSplit, verdictOf, judgedOf, framedWithin, filtersIn, setAnswer, answerOf, identifiersEnd, marksOf}
-use Rattle.element.specs.Meaning.{Octet}
+use Rattle.element.specs.Framing.{Raw, identifierOf, split, splitOf, Framed, notFramed, filters, identifiers, bare as bareFramed, framedOf}
+use Rattle.element.specs.Contents.{codedOf}
+use Rattle.element.specs.Places.{earliest, badlyCoded, fitsNothing, precedenceIn, repeatsOne, orElse, filtersPlace, framedPlace, placeOf}
+use Rattle.element.specs.Read.{noFilters, noMarks, refused, Entry, entryFittable, Entries, badly, coded, withEntry, entriesOf, twice, inPlaces, judgedEntries, judgedFrame, readValue, unplaced, placed, readElement}
+use Rattle.element.specs.inner.Walk.{frameOf, whole, noPrecedences, Found, foundStart, earlierOf, rowWith, foundRaw, foundSplit, firstPlace, judgedOf, framedWithin, filtersIn, setAnswer, answerOf, placeIn, unframedWithin, identifiersEnd, marksOf}
+use Rattle.element.specs.Meaning.{Octet, rawsOctets}
 use Rattle.element.proofs.Splitting.{OctetPrecedence, narrow-precedences}
 use Rattle.element.proofs.Frames.{Listed, listed}
+use Rattle.element.proofs.Earliest.{badly-none, unfit-none, repeats-none, earliest-small, raws-octets}
 
--- ---- decoding keeps the precedence and the direction of the filter that it starts from
-keeps-both : (f g h : Filter) → SameStart f g → SameStart g h → SameStart f h
-keeps-both f g h a b = record { precedence = b .precedence ∙ a .precedence; direction = b .direction ∙ a .direction }
-
--- what was decoded, if it was, keeps those of f
-abbrev StartKept : Filter → Coded → Type 0
-StartKept f Badly = Unit {0}
-StartKept f (Well g) = SameStart f g
-
-kept-both : (f g : Filter) (r : Coded) → SameStart f g → StartKept g r → StartKept f r
-kept-both f g Badly a b = tt
-kept-both f g (Well h) a b = keeps-both f g h a b
-
-from-keeps : (k : ℕ) (f : Filter) (xs : List ℕ) → StartKept f (contentsFrom k f xs)
-unfolding contentsFrom
-from-keeps zero f [] = record { precedence = refl; direction = refl }
-from-keeps (suc k) f [] = tt
-from-keeps zero f (t ∷ xs) =
-    go (known t && not (excluded f t)) (from-keeps (lengthOf t) (added f (componentOf t (take (lengthOf t) xs))) xs)
+-- ---- the first place that is found is kept
+or-none : (p : ℕ) → p ≡ orElse p 0
+or-none p = go (eqb p 0) refl
   where
-    g : Filter
-    g = added f (componentOf t (take (lengthOf t) xs))
+    go : (b : Bool) → eqb p 0 ≡ b → p ≡ pick b 0 p
+    go true e = eqb-true p 0 e
+    go false e = refl
 
-    go : (b : Bool) → StartKept g (contentsFrom (lengthOf t) g xs) → StartKept f (pick b (contentsFrom (lengthOf t) g xs) Badly)
-    go true h = kept-both f g (contentsFrom (lengthOf t) g xs) (added-start f (componentOf t (take (lengthOf t) xs))) h
-    go false h = tt
-from-keeps (suc k) f (x ∷ xs) = from-keeps k f xs
-
-keeps : (f : Filter) (xs : List ℕ) → StartKept f (contentsOf f xs)
-unfolding contentsOf
-keeps f [] = tt
-keeps f (t ∷ xs) = from-keeps 0 f (t ∷ xs)
-
-pub coded-keeps : (f : Filter) (xs : List ℕ) (g : Filter) → contentsOf f xs ≡ Well g → SameStart f g
-coded-keeps f xs g e = rw e at (keeps f xs)
-
--- ---- the filters that are well coded, one after the other
-foundEntry : Found → Entry → Found
-foundEntry st e = foundWith st (e .identifier) (Well (e .filter))
-
--- an entry as octets give it
-record Small (e : Entry) : Type 0 where
-  identifier : e .identifier < placeCount
-  precedence : precedenceOf e < 256
-
--- r is what the raw filters after st give, where their entries are these: badly, or each entry judged
-abbrev Follows : Found → Found → Entries → Type 0
-Follows st r badly = r .badly ≡ true
-Follows st r (coded es) = (r ≡ fold foundEntry st es) × All Small es
-
-badly-still : (st : Found) (i : ℕ) (x : Coded) → st .badly ≡ true → foundWith st i x .badly ≡ true
-badly-still st i Badly h = refl
-badly-still st i (Well f) h = h
-
-badly-stays : (st : Found) (rs : List Raw) → st .badly ≡ true → fold foundRaw st rs .badly ≡ true
-unfolding fold foundRaw
-badly-stays st [] h = h
-badly-stays st (r ∷ rs) h = badly-stays (foundRaw st r) rs (badly-still st (identifierOf r) (codedOf r) h)
-
-follows-entry : (st r : Found) (e : Entry) (es : Entries) → Small e → Follows (foundEntry st e) r es → Follows st r (withEntry (e .identifier) (Well (e .filter)) es)
-unfolding fold
-follows-entry st r e badly s h = h
-follows-entry st r e (coded es) s h = (h .0, (s, h .1))
-
-follows : (st : Found) (rs : List Raw) → All OctetPrecedence rs → Follows st (fold foundRaw st rs) (entriesOf rs)
-unfolding fold foundRaw entriesOf foundEntry codedOf
-follows st [] h = (refl, tt)
-follows st (r ∷ rs) h = go (codedOf r) refl (λ (st′ : Found). follows st′ rs (h .1))
+or-first : (found at rest : ℕ) (wrong : Bool) → 0 < at → orElse (earlierOf found wrong at) rest ≡ orElse found (pick wrong at rest)
+or-first found at rest false h = refl
+or-first found at rest true h = go (eqb found 0) refl
   where
-    go : (x : Coded) → codedOf r ≡ x → ((st′ : Found) → Follows st′ (fold foundRaw st′ rs) (entriesOf rs))
-        → Follows st (fold foundRaw (foundWith st (identifierOf r) x) rs) (withEntry (identifierOf r) x (entriesOf rs))
-    go Badly e rec = badly-stays (foundWith st (identifierOf r) Badly) rs refl
-    go (Well f) e rec =
-        let k = coded-keeps (bare (r .precedence) (directionOf r)) (r .contents) f e in
-        follows-entry st _ (record { identifier = identifierOf r; filter = f }) (entriesOf rs)
-        (record { identifier = omega arith; precedence = omega (arith, k .precedence, h .0) })
-        (rec (foundWith st (identifierOf r) (Well f)))
+    go : (b : Bool) → eqb found 0 ≡ b → orElse (pick b at found) rest ≡ pick b at found
+    go true e = rw (ne-eqb at 0 (λ q. omega arith))
+    go false e = rw e
 
--- ---- what was found of them, from the state st
-found-badly : (st : Found) (es : List Entry) → fold foundEntry st es .badly ≡ st .badly
-unfolding fold foundEntry
-found-badly st [] = refl
-found-badly st (e ∷ es) = found-badly (foundEntry st e) es
+-- g is the place that is kept of the filters that are wrong, told of those before them; Ready is what is known of what was found, after those
+module _ (g : Found → ℕ) (wrong : List Raw → Raw → Bool) (Ready : Found → List Raw → Type 0)
+    (ready : (st : Found) (before : List Raw) (r : Raw) → OctetPrecedence r → Ready st before → Ready (foundRaw st r) (before ++ r ∷ []))
+    (turn : (st : Found) (before : List Raw) (r : Raw) → OctetPrecedence r → Ready st before → g (foundRaw st r) ≡ earlierOf (g st) (wrong before r) (st .at))
+  where
+    found-earliest : (st : Found) (before rs : List Raw) → 0 < st .at → All OctetPrecedence rs → Ready st before
+        → g (fold foundRaw st rs) ≡ orElse (g st) (earliest wrong before (st .at) rs)
+    unfolding fold foundRaw earliest
+    found-earliest st before [] h small k = or-none (g st)
+    found-earliest st before (r ∷ rs) h small k =
+        found-earliest (foundRaw st r) (before ++ r ∷ []) rs (omega arith) (small .1) (ready st before r (small .0) k)
+        ∙ rw (turn st before r (small .0) k) (or-first (g st) (st .at) _ (wrong before r) h)
 
-found-row : (st : Found) (es : List Entry) → fold foundEntry st es .row ≡ inPlaces es (st .row)
-unfolding fold foundEntry inPlaces
+module _ (rs : List Raw) (small : All OctetPrecedence rs) where
+  found-badly : fold foundRaw foundStart rs .badly ≡ earliest badlyCoded [] 1 rs
+  unfolding foundRaw
+  found-badly = found-earliest (λ st. st .badly) badlyCoded (λ st before. Unit {0}) (λ st before r o k. tt) (λ st before r o k. refl) foundStart [] rs (omega arith) small tt
+
+  found-unfit : fold foundRaw foundStart rs .unfit ≡ earliest fitsNothing [] 1 rs
+  unfolding foundRaw
+  found-unfit = found-earliest (λ st. st .unfit) fitsNothing (λ st before. Unit {0}) (λ st before r o k. tt) (λ st before r o k. refl) foundStart [] rs (omega arith) small tt
+
+  -- what is marked are the identifiers and the precedences of the filters before
+  abbrev Marked : Found → List Raw → Type 0
+  Marked st before = Marks placeCount (st .identifiers) (map identifierOf before) × Marks precedenceCount (st .precedences) (map precedenceIn before)
+
+  marked-start : Marked foundStart []
+  unfolding noMarks noPrecedences
+  marked-start = (marks-none placeCount, marks-none precedenceCount)
+
+  marked-turn : (st : Found) (before : List Raw) (r : Raw) → OctetPrecedence r → Marked st before → Marked (foundRaw st r) (before ++ r ∷ [])
+  unfolding foundRaw
+  marked-turn st before r o k =
+      rw (map-append identifierOf before (r ∷ []), map-append precedenceIn before (r ∷ [])) (
+        marks-more placeCount (st .identifiers) (map identifierOf before) (identifierOf r) (omega arith) (k .0),
+        marks-more precedenceCount (st .precedences) (map precedenceIn before) (precedenceIn r) o (k .1),
+      )
+
+  found-repeated : fold foundRaw foundStart rs .repeated ≡ earliest repeatsOne [] 1 rs
+  unfolding foundRaw repeatsOne
+  found-repeated =
+      found-earliest (λ st. st .repeated) repeatsOne Marked marked-turn
+      (λ st before r o k. rw (k .0 .tells (identifierOf r) (omega arith), k .1 .tells (precedenceIn r) o)) foundStart [] rs (omega arith) small marked-start
+
+-- ---- the row, where every filter is well coded
+abbrev RowLaid : List Filter → List Filter → Entries → Type 0
+RowLaid before row badly = Unit {0}
+RowLaid before row (coded es) = row ≡ inPlaces es before
+
+found-row : (st : Found) (rs : List Raw) → RowLaid (st .row) (fold foundRaw st rs .row) (entriesOf rs)
+unfolding fold foundRaw entriesOf inPlaces
 found-row st [] = refl
-found-row st (e ∷ es) = found-row (foundEntry st e) es
+found-row st (r ∷ rs) = go (codedOf r) (entriesOf rs) (found-row (foundRaw st r) rs)
+  where
+    row : List Filter
+    row = fold foundRaw (foundRaw st r) rs .row
 
-or-not : (u a b : Bool) → (u || not a) || not b ≡ u || not (a && b)
-or-not true a b = refl
-or-not false true b = refl
-or-not false false b = refl
-
-found-unfit : (st : Found) (es : List Entry) → fold foundEntry st es .unfit ≡ st .unfit || not (every entryFittable es)
-unfolding fold foundEntry every
-found-unfit st [] = sym (or-false (st .unfit))
-found-unfit st (e ∷ es) = found-unfit (foundEntry st e) es ∙ or-not (st .unfit) (entryFittable e) (every entryFittable es)
-
-regroup : (a b i p : Bool) → (a || b) || i || p ≡ (a || i) || (b || p)
-regroup true b i p = refl
-regroup false true true p = refl
-regroup false true false p = refl
-regroup false false i p = refl
-
-found-repeated : (st : Found) (es : List Entry) (a b : Bool) → st .repeated ≡ a || b
-    → fold foundEntry st es .repeated ≡ again isMarked withMark (map (λ e. e .identifier) es) (st .identifiers) a || again isMarked withMark (map precedenceOf es) (st .precedences) b
-unfolding fold foundEntry again
-found-repeated st [] a b h = h
-found-repeated st (e ∷ es) a b h =
-    found-repeated (foundEntry st e) es (a || getD (st .identifiers) (e .identifier) false) (b || getD (st .precedences) (precedenceOf e) false)
-    (rw h (regroup a b (getD (st .identifiers) (e .identifier) false) (getD (st .precedences) (precedenceOf e) false)))
-
--- ---- from the start
-small-identifiers : (es : List Entry) → All Small es → All (λ x. x < placeCount) (map (λ e. e .identifier) es)
-small-identifiers [] h = tt
-small-identifiers (e ∷ es) h = (h .0 .identifier, small-identifiers es (h .1))
-
-small-precedences : (es : List Entry) → All Small es → All (λ x. x < 256) (map precedenceOf es)
-small-precedences [] h = tt
-small-precedences (e ∷ es) h = (h .0 .precedence, small-precedences es (h .1))
-
-start-repeated : (es : List Entry) → All Small es → fold foundEntry foundStart es .repeated ≡ twice es
-unfolding noMarks noPrecedences twice
-start-repeated es h =
-    found-repeated foundStart es false false refl
-    ∙ rw (bools-repeat 16 (map (λ e. e .identifier) es) (small-identifiers es h), bools-repeat 256 (map precedenceOf es) (small-precedences es h))
+    go : (x : Coded) (E : Entries) → RowLaid (rowWith (st .row) (identifierOf r) x) row E → RowLaid (st .row) row (withEntry (identifierOf r) x E)
+    go Badly E h = tt
+    go (Well f) badly h = tt
+    go (Well f) (coded es) h = h
 
 -- ---- the element of a filter set, of what was found
 abbrev setElement : SetOperation → Judged → Element
-setElement operation judged = record { answer = setAnswer operation (judged .verdict); filters = judged .row; marks = noMarks }
+setElement operation judged = record { answer = setAnswer operation (judged .verdict) (judged .place); filters = judged .row; marks = noMarks }
 
-decided : (operation : SetOperation) (row : List Filter) (fit again : Bool)
-    → record { answer = setAnswer operation (verdictOf false (not fit) again); filters = pick (not fit || again) noFilters row; marks = noMarks }
-    ≡ pick fit (pick again (refused Coding) (record { answer = Filters operation; filters = row; marks = noMarks })) (refused Semantics)
-decided operation row true true = refl
-decided operation row true false = refl
-decided operation row false again = refl
+module _ (operation : SetOperation) (st : Found) where
+  decided : (es : List Entry) (fit again : Bool) → eqb (st .badly) 0 ≡ true → eqb (st .unfit) 0 ≡ fit → eqb (st .repeated) 0 ≡ not again
+      → st .row ≡ inPlaces es noFilters
+      → setElement operation (judgedOf st)
+      ≡ placed (firstPlace (st .badly) (st .unfit) (st .repeated))
+      (pick fit (pick again (refused Coding) (record { answer = Filters operation; filters = inPlaces es noFilters; marks = noMarks })) (refused Semantics))
+  decided es true true b u r q = rw (b, u, r)
+  decided es true false b u r q = rw (b, u, r, q)
+  decided es false again b u r q = rw (b, u) (rw u)
 
-verdict-at : (operation : SetOperation) (r : Found) (es : List Entry) → r .badly ≡ false → r .row ≡ inPlaces es noFilters → r .unfit ≡ not (every entryFittable es)
-    → r .repeated ≡ twice es → setElement operation (judgedOf r) ≡ judgedEntries operation (coded es)
-verdict-at operation r es hb hr hu ht = rw (hb, hu, ht, hr) (decided operation (inPlaces es noFilters) (every entryFittable es) (twice es))
+  judged-entries : (rs : List Raw) (E : Entries) → entriesOf rs ≡ E → RowLaid noFilters (st .row) E
+      → st .badly ≡ earliest badlyCoded [] 1 rs → st .unfit ≡ earliest fitsNothing [] 1 rs → st .repeated ≡ earliest repeatsOne [] 1 rs
+      → setElement operation (judgedOf st) ≡ placed (filtersPlace rs) (judgedEntries operation E)
+  unfolding filtersPlace
+  judged-entries rs badly e row b u r =
+      rw (← b, ← u, ← r) (let w : eqb (st .badly) 0 ≡ false = rw b (badly-none [] 1 rs (omega arith) ∙ rw e) in rw w (rw w))
+  judged-entries rs (coded es) e row b u r =
+      rw (← b, ← u, ← r)
+      (decided es (every entryFittable es) (twice es)
+      (rw b (badly-none [] 1 rs (omega arith) ∙ rw e)) (rw u (unfit-none [] 1 rs es (omega arith) e)) (rw r (repeats-none 1 rs es (omega arith) e)) row)
 
-judged-verdict : (operation : SetOperation) (r : Found) (es : Entries) → Follows foundStart r es → setElement operation (judgedOf r) ≡ judgedEntries operation es
-judged-verdict operation r badly h = rw h
-judged-verdict operation r (coded es) h =
-    rw (h .0)
-    (verdict-at operation (fold foundEntry foundStart es) es
-    (found-badly foundStart es) (found-row foundStart es) (found-unfit foundStart es) (start-repeated es (h .1)))
-
-verdict-entries : (operation : SetOperation) (rs : List Raw) → All OctetPrecedence rs
-    → setElement operation (judgedOf (fold foundRaw foundStart rs)) ≡ judgedEntries operation (entriesOf rs)
-verdict-entries operation rs h = judged-verdict operation (fold foundRaw foundStart rs) (entriesOf rs) (follows foundStart rs h)
+filters-judged : (operation : SetOperation) (rs : List Raw) → All OctetPrecedence rs
+    → setElement operation (judgedOf (fold foundRaw foundStart rs)) ≡ placed (filtersPlace rs) (judgedEntries operation (entriesOf rs))
+filters-judged operation rs small =
+    judged-entries operation (fold foundRaw foundStart rs) rs (entriesOf rs) refl (found-row foundStart rs)
+    (found-badly rs small) (found-unfit rs small) (found-repeated rs small)
 
 -- ---- the parts of a value's element, by how it is framed
 module _ (s : List ℕ) where
-  listed-within : Listed s (framedWithin s)
-  listed-within = go (leb (length s) longest)
+  -- what is framed is also short
+  abbrev Short : Framed → Type 0
+  Short notFramed = Unit {0}
+  Short (filters operation rs) = length s ≤ longest
+  Short (identifiers xs) = Unit {0}
+  Short (bareFramed operation) = Unit {0}
+
+  short : (F : Framed) → length s ≤ longest → Short F
+  short notFramed h = tt
+  short (filters operation rs) h = h
+  short (identifiers xs) h = tt
+  short (bareFramed operation) h = tt
+
+  within : Listed s (framedWithin s) × Short (framedWithin s)
+  within = go (leb (length s) longest) refl
     where
-      go : (b : Bool) → Listed s (pick b (framedOf s) notFramed)
-      go true = listed s
-      go false = tt
+      go : (b : Bool) → leb (length s) longest ≡ b → Listed s (pick b (framedOf s) notFramed) × Short (pick b (framedOf s) notFramed)
+      go true e = (listed s, short (framedOf s) (leb-true (length s) longest e))
+      go false e = (tt, tt)
 
   pub filters-there : whole (splitOf (filtersIn (frameOf (framedWithin s))) (drop 1 s)) ≡ true
   unfolding splitOf
-  filters-there = go (framedWithin s) listed-within
+  filters-there = go (framedWithin s) (within .0)
     where
       go : (F : Framed) → Listed s F → whole (splitOf (filtersIn (frameOf F)) (drop 1 s)) ≡ true
       go notFramed l = refl
@@ -206,7 +177,7 @@ module _ (s : List ℕ) where
       go (bareFramed operation) l = refl
 
   pub identifiers-there : identifiersEnd (frameOf (framedWithin s)) ≤ length s
-  identifiers-there = go (framedWithin s) listed-within
+  identifiers-there = go (framedWithin s) (within .0)
     where
       go : (F : Framed) → Listed s F → identifiersEnd (frameOf F) ≤ length s
       go notFramed l = omega arith
@@ -214,23 +185,65 @@ module _ (s : List ℕ) where
       go (identifiers xs) l = l .few
       go (bareFramed operation) l = omega arith
 
+  abbrev judged : Frame → Judged
+  judged frame = judgedOf (foundSplit foundStart (splitOf (filtersIn frame) (drop 1 s)))
+
   abbrev parts : Frame → Element
-  parts frame =
-      let judged = judgedOf (foundSplit foundStart (splitOf (filtersIn frame) (drop 1 s))) in
-      record { answer = answerOf frame (judged .verdict); filters = judged .row; marks = marksOf frame s }
+  parts frame = record { answer = answerOf frame (judged frame .verdict) (placeIn frame (judged frame .place) s); filters = judged frame .row; marks = marksOf frame s }
 
-  frame-parts : All Octet s → (F : Framed) → Listed s F → parts (frameOf F) ≡ judgedFrame F
-  unfolding splitOf fold
-  frame-parts octets notFramed l = refl
-  frame-parts octets (filters operation rs) l =
-      rw (l .there) (verdict-entries operation rs (narrow-precedences (length rs) (drop 1 s) rs (l .rest) (all-drop Octet 1 s octets) (l .there)))
-  frame-parts octets (identifiers xs) l = rw (l .first)
-  frame-parts octets (bareFramed operation) l = refl
+  -- the place of a value that is framed so, or not at all
+  abbrev placeFor : Framed → ℕ
+  placeFor notFramed = unframedWithin s
+  placeFor (filters operation rs) = filtersPlace rs
+  placeFor (identifiers xs) = 0
+  placeFor (bareFramed operation) = 0
 
-  pub parts-read : All Octet s → parts (frameOf (framedWithin s)) ≡ readElement s
-  unfolding readElement readValue
-  parts-read octets = go (leb (length s) longest)
-    where
-      go : (b : Bool) → parts (frameOf (pick b (framedOf s) notFramed)) ≡ pick b (judgedFrame (framedOf s)) (refused Operation)
-      go true = frame-parts octets (framedOf s) (listed s)
-      go false = frame-parts octets notFramed tt
+  place-short : leb (length s) longest ≡ true → (F : Framed) → placeFor F ≡ framedPlace F s
+  place-short e notFramed = rw e
+  place-short e (filters operation rs) = refl
+  place-short e (identifiers xs) = refl
+  place-short e (bareFramed operation) = refl
+
+  module _ (octets : All Octet s) where
+    precedences : (rs : List Raw) (rest : List ℕ) → splitOf (length rs) (drop 1 s) ≡ split rs rest → All OctetPrecedence rs
+    precedences rs rest e = narrow-precedences (length rs) (drop 1 s) rs rest (all-drop Octet 1 s octets) e
+
+    frame-parts : (F : Framed) → Listed s F → parts (frameOf F) ≡ placed (placeFor F) (judgedFrame F)
+    unfolding splitOf fold
+    frame-parts notFramed l = refl
+    frame-parts (filters operation rs) l = rw (l .there) (filters-judged operation rs (precedences rs (l .rest) (l .there)))
+    frame-parts (identifiers xs) l = rw (l .first)
+    frame-parts (bareFramed operation) l = refl
+
+    pub parts-read : parts (frameOf (framedWithin s)) ≡ readElement s
+    unfolding readElement unplaced readValue placeOf
+    parts-read = go (leb (length s) longest) refl
+      where
+        go : (b : Bool) → leb (length s) longest ≡ b
+            → parts (frameOf (pick b (framedOf s) notFramed)) ≡ placed (pick b (framedPlace (framedOf s) s) 0) (pick b (judgedFrame (framedOf s)) (refused Operation))
+        go true e = frame-parts (framedOf s) (listed s) ∙ ap (λ (p : ℕ). placed p (judgedFrame (framedOf s))) (place-short e (framedOf s))
+        go false e = frame-parts notFramed tt ∙ ap (λ (p : ℕ). placed p (refused Operation)) (rw e)
+
+    -- a list of filters is short, and the place of one of them is within it
+    pub judged-small : judged (frameOf (framedWithin s)) .place < 256
+    unfolding splitOf fold filtersPlace
+    judged-small = go (framedWithin s) (within .0) (within .1)
+      where
+        one : (wrong : List Raw → Raw → Bool) (rs : List Raw) (rest : List ℕ) → splitOf (length rs) (drop 1 s) ≡ split rs rest → length s ≤ longest
+            → earliest wrong [] 1 rs < 256
+        one wrong rs rest there l =
+            let long : length (drop 1 s) ≡ length (rawsOctets rs ++ rest) = ap length (raws-octets (length rs) (drop 1 s) rs rest there) in
+            ⊎-elim (λ z. omega arith) (λ z. omega (arith, simp (length-drop, length-append) at long)) (earliest-small wrong [] 1 rs (omega arith))
+
+        either : (p q : ℕ) → p < 256 → q < 256 → orElse p q < 256
+        either p q hp hq = picked (λ (n : ℕ). n < 256) (eqb p 0) q p hq hp
+
+        go : (F : Framed) → Listed s F → Short F → judged (frameOf F) .place < 256
+        go notFramed l h = omega arith
+        go (filters operation rs) l h =
+            let small = precedences rs (l .rest) (l .there) in
+            let below : (wrong : List Raw → Raw → Bool) → earliest wrong [] 1 rs < 256 = λ wrong. one wrong rs (l .rest) (l .there) h in
+            rw (l .there, found-badly rs small, found-unfit rs small, found-repeated rs small)
+            (either _ _ (below badlyCoded) (either _ _ (below fitsNothing) (below repeatsOne)))
+        go (identifiers xs) l h = omega arith
+        go (bareFramed operation) l h = omega arith

@@ -8,6 +8,8 @@ mod Frames
 mod Offsets
 pub mod Stepping
 mod Held
+mod Keeping
+pub mod Earliest
 mod Judging
 mod Writing
 mod Rows
@@ -18,6 +20,9 @@ mod Ordered
 mod Decoded
 mod Laid
 mod Causes
+pub mod Placing
 pub mod Given
+pub mod Heads
 pub mod Holdings
 pub mod Divided
+pub mod Unframed

@@ -16,8 +16,8 @@ use Rattle.element.specs.declared.answer.SetOperation.{SetOperation}
 use Rattle.element.specs.declared.answer.BareOperation.{BareOperation}
 use Rattle.element.specs.declared.framing.Frame.the-variants.{NotFramed, Bare}
 use Rattle.element.specs.declared.entries.Handed.the-variants.{Identifier, End}
+use Rattle.element.specs.Contents.{codedOf}
 use Rattle.element.specs.Framing.{Raw, identifierIn, Split, cut, split, withRaw, splitOf, Framed, notFramed, filters, identifiers, bare, framedOf}
-use Rattle.element.specs.Read.{codedOf}
 use Rattle.element.specs.Entries.{Located, codedFilter, locatedFilter, locatedFilters, locatedIdentifiers, locatedIn, locatedOf, locatedAt, afterAt}
 use Rattle.element.specs.inner.Walk.{frameOf, rawAt, whole, locatedSplit, beginsAt}
 use Rattle.element.proofs.Splitting.{split-inside, split-next, whole-after}

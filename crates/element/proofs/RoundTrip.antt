@@ -28,7 +28,8 @@ use Rattle.element.specs.declared.answer.Answer.the-variants.{Filters, I
 use Rattle.element.specs.declared.answer.Element.{Element}
 use Rattle.element.specs.declared.contents.Coded.the-variants.{Well}
 use Rattle.filter.specs.Build.{emptyFilter}
-use Rattle.element.specs.Read.{noFilters, noMarks, withoutSets, Entry, precedenceOf, entryFittable, codedOf, coded, entriesOf, twice, inPlaces, marked, readValue}
+use Rattle.element.specs.Read.{noFilters, noMarks, withoutSets, Entry, precedenceOf, entryFittable, coded, entriesOf, twice, inPlaces, marked, readValue}
+use Rattle.element.specs.Contents.{codedOf}
 use Rattle.element.specs.Framing.{Raw, identifierOf, directionOf, split, splitOf, restFits, framedSet, framedBy, framedOf, filters, identifiers}
 use Rattle.element.specs.Write.{contentsOctets, entryOctets, entriesFrom, entriesOctets, marksFrom, setNumber, octetsBy, octetsOf, oneToFifteen, rowGiven, marksGiven, givenBy, given}
 use Rattle.element.specs.Meaning.{Octet, ElementInRange}

@@ -1,12 +1,12 @@
 -- Laws of `splitOf`: the filter at a place of the octets, a walk that judges the filters, what is left after them, and what octets give.
 use mathlib.Core.Path.{_≡_, refl, sym, ap, _∙_}
-use mathlib.Core.Bool.{Bool, true, false, _||_, or-assoc, false≢true}
+use mathlib.Core.Bool.{Bool, true, false, false≢true}
 use mathlib.Core.List.{List, [], _∷_}
 use Prim.Native.Nat.{ℕ, zero, suc, _+_, _-_, _≤_, _<_}
 use native.Mathlib.Omega.{arith}
-use lib.Dec.{leb}
+use lib.Dec.{eqb, leb}
 use lib.ListN.{length, take, drop, getD, length-drop, length-set}
-use lib.Seq.{drop-drop, getD-drop}
+use lib.Seq.{drop-drop, getD-drop, length-take-le}
 use borrow.Author.Tests.{le-leb, leb-true}
 use Rattle.laws.specs.Says.{pick}
 use Rattle.laws.specs.Lists.{All, fold}
@@ -16,9 +16,10 @@ use Rattle.filter.specs.Sizes.{placeCount, precedenceCount}
 use Rattle.element.specs.declared.contents.Coded.{Coded}
 use Rattle.element.specs.declared.contents.Coded.the-variants.{Badly, Well}
 use Rattle.element.specs.declared.judge.Verdict.{Verdict}
-use Rattle.element.specs.Read.{noFilters, codedOf}
+use Rattle.element.specs.Read.{noFilters}
+use Rattle.element.specs.Contents.{codedOf}
 use Rattle.element.specs.Framing.{Raw, identifierOf, Split, cut, split, withRaw, splitOf}
-use Rattle.element.specs.inner.Walk.{rawAt, whole, Found, foundStart, foundWith, foundRaw, foundSplit, verdictOf, judgedOf}
+use Rattle.element.specs.inner.Walk.{rawAt, whole, Found, foundStart, rowWith, foundRaw, foundSplit, verdictOf, firstPlace, judgedOf}
 use Rattle.element.specs.Meaning.{Octet}
 
 abbrev pub OctetPrecedence : Raw → Type 0
@@ -58,6 +59,10 @@ module _ (n : ℕ) (s : List ℕ) (at : ℕ) where
         drop-drop,
       )
 
+-- a filter that is all there has contents as long as it says
+pub raw-long : (s : List ℕ) (at : ℕ) → at + 3 + getD s (at + 2) 0 ≤ length s → length (rawAt s at .contents) ≡ getD s (at + 2) 0
+raw-long s at h = length-take-le (getD s (at + 2) 0) (drop (at + 3) s) (simp length-drop (omega arith))
+
 -- ---- the filters, judged as they stand there
 pub whole-after : (r : Raw) (q : Split) → whole (withRaw r q) ≡ whole q
 whole-after r cut = refl
@@ -92,11 +97,11 @@ Long st = (length (st .row) ≡ placeCount) × (length (st .identifiers) ≡ pla
 
 long-raw : (st : Found) (r : Raw) → Long st → Long (foundRaw st r)
 unfolding foundRaw
-long-raw st r h = go (codedOf r)
+long-raw st r h = (go (codedOf r), simp length-set (h .1), simp length-set (h .2))
   where
-    go : (x : Coded) → Long (foundWith st (identifierOf r) x)
-    go Badly = h
-    go (Well f) = (simp length-set (h .0), simp length-set (h .1), simp length-set (h .2))
+    go : (x : Coded) → length (rowWith (st .row) (identifierOf r) x) ≡ placeCount
+    go Badly = h .0
+    go (Well f) = simp length-set (h .0)
 
 -- i of the n filters after octet 1 gave st: those that are left, from `at` on, are all there, and judged after st give what all of them give
 abbrev pub Reached : List ℕ → ℕ → ℕ → ℕ → Found → Type 0
@@ -115,10 +120,10 @@ module _ (s : List ℕ) (n at i : ℕ) (st : Found) where
       sym (rw e at (h .3))
 
   pub reached-judged : n ≤ i → (verdict : Verdict) → verdict ≡ verdictOf (st .badly) (st .unfit) (st .repeated)
-      → (wrong : Bool) → (st .badly || st .unfit) || st .repeated ≡ wrong → (row : List Filter) → row ≡ pick wrong noFilters (st .row)
-      → Reached s n at i st → record { verdict = verdict; row = row } ≡ judgedOf (foundSplit foundStart (splitOf n (drop 1 s)))
-  reached-judged end verdict hv wrong hw row hr h =
-      rw (reached-done end h, hv, hr, ← hw, or-assoc)
+      → (place : ℕ) → place ≡ firstPlace (st .badly) (st .unfit) (st .repeated)
+      → (none : Bool) → eqb place 0 ≡ none → (row : List Filter) → row ≡ pick none (st .row) noFilters
+      → Reached s n at i st → record { verdict = verdict; place = place; row = row } ≡ judgedOf (foundSplit foundStart (splitOf n (drop 1 s)))
+  reached-judged end verdict hv place hp none hn row hr h = rw (reached-done end h, hv, hr, ← hn, hp)
 
 -- ---- what is left after the filters stands at the end of the octets
 abbrev Ends : List ℕ → Split → Type 0

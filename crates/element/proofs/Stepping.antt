@@ -22,9 +22,11 @@ use Rattle.element.specs.declared.entries.Handed.{Handed}
 use Rattle.element.specs.declared.entries.Handed.the-variants.{Filter, Identifier, Refused, End}
 use Rattle.element.specs.Numbers.{numberOf, verdictOn, handedNumber}
 use Rattle.element.specs.Framing.{Raw, identifierIn, identifierOf, Framed, notFramed, filters, identifiers, bare, framedOf}
-use Rattle.element.specs.Read.{noFilters, noMarks, refused, Entry, entryFittable, codedOf, Entries as DecodedEntries, badly, coded, withEntry, entriesOf, twice, inPlaces, filterSet, marked, judgedEntries, judgedFrame, readValue, readElement}
+use Rattle.element.specs.Read.{noFilters, noMarks, refused, Entry, entryFittable, Entries as DecodedEntries, badly, coded, withEntry, entriesOf, twice, inPlaces, filterSet, marked, judgedEntries, judgedFrame, readValue, unplaced, readElement}
+use Rattle.element.specs.Contents.{codedOf}
 use Rattle.element.specs.Entries.{Located, codedFilter, locatedFilter, locatedFilters, locatedIdentifiers, locatedIn, locatedOf, handedOut, nthBy, nthOf, firstOffsetBy, firstOffset, causeIn, locatedAt, lookAt, afterAt, afterAll, IsEntry, Shows, StepsThrough, emptySets, setsOf, laidInto, HandsOutAll, HandsOutCause, Everywhere}
 use Rattle.element.proofs.Causes.{some-number}
+use Rattle.element.proofs.Placing.{read-number, read-same}
 use Rattle.element.proofs.Offsets.{nothingAt, nothing-there, Chained, placed-chained, nothing-before}
 
 -- ---- Each entry is handed out at its offset, and the next one at the offset after it
@@ -166,8 +168,8 @@ no-cause (refusedWith refusal) q = some-number (refusal .cause) q
 
 module _ (s : List ℕ) where
   judged : numberOf (readElement s .answer) ≡ 0 → readElement s ≡ judgedFrame (framedOf s)
-  unfolding readElement readValue
-  judged = go (leb (length s) 255)
+  unfolding unplaced readValue
+  judged q = read-same s q ∙ go (leb (length s) 255) (sym (read-number s) ∙ q)
     where
       go : (b : Bool) → numberOf (pick b (judgedFrame (framedOf s)) (refused Operation) .answer) ≡ 0
           → pick b (judgedFrame (framedOf s)) (refused Operation) ≡ judgedFrame (framedOf s)

@@ -14,6 +14,7 @@ use Rattle.laws.specs.Lists.{All, every}
 use Rattle.laws.proofs.Says.{says-ne, says-no}
 use Rattle.filter.specs.declared.component.Filter.{Filter}
 use Rattle.element.specs.declared.answer.SetOperation.the-variants.{Create}
+use Rattle.element.specs.declared.answer.Refusal.{Refusal}
 use Rattle.element.specs.declared.answer.Answer.{Answer}
 use Rattle.element.specs.declared.answer.Answer.the-variants.{Filters, Identifiers, Bare, Refused}
 use Rattle.element.specs.declared.answer.Element.{Element}
@@ -23,17 +24,21 @@ use Rattle.element.specs.declared.write.Unwritten.{Unwritten}
 use Rattle.element.specs.declared.write.Unwritten.the-variants.{NotGiven, TooLong, NoRoom}
 use Rattle.element.specs.declared.write.Written.{Written}
 use Rattle.element.specs.declared.write.Written.the-variants.{Wrote, Refused as refusedTo}
-use Rattle.element.specs.Numbers.{numberOf, writtenNumber}
+use Rattle.element.specs.Numbers.{verdictOn, numberOf, placedNumber, writtenNumber}
 use Rattle.element.specs.Head.{longest, operationOf, create, extensionIn, countIn}
 use Rattle.element.specs.Framing.{Raw, Split, cut, split, splitOf, restFits, notFramed, filters, framedSplit, framedSet, framedBy, framedOf}
-use Rattle.element.specs.Read.{refused, entryFittable, Entries, badly, coded, entriesOf, twice, filterSet, judgedEntries, judgedFrame, readValue, readElement}
+use Rattle.element.specs.Places.{framedPlace, placeOf}
+use Rattle.element.specs.Read.{refused, entryFittable, Entries, badly, coded, entriesOf, twice, filterSet, judgedEntries, judgedFrame, readValue, unplaced, atPlace, readElement}
 use Rattle.element.specs.Write.{octetsOf, givenBy, given, writtenBy, writeOf}
 use Rattle.element.specs.Order.{InOrder}
-use Rattle.element.specs.Meaning.{Octet, ElementInRange, ReadsAs, IsCause, TooLongOrUnframed, SomeFilterBadlyCoded, SomeFilterUnfit, SomethingTwice}
+use Rattle.element.specs.Meaning.{Octet, ElementInRange, ReadsAs, IsCause, TooLongOrUnframed, SomeFilterBadlyCoded, SomeFilterUnfit, SomethingTwice, PlaceSays, TakenApart}
 use Rattle.element.proofs.RoundTrip.{round, octets-octets}
 use Rattle.element.proofs.Ordered.{in-order}
 use Rattle.element.proofs.Given.{reads-given}
-use Rattle.element.proofs.Causes.{cause-says}
+use Rattle.element.proofs.Causes.{some-number, cause-says}
+use Rattle.element.proofs.Placing.{placed-same, read-number, verdict-place}
+use Rattle.element.proofs.Earliest.{badly-earliest, unfit-earliest, twice-earliest, place-within}
+use Rattle.element.proofs.Unframed.{unframed-within, breaks-says}
 
 -- ---- the writer takes exactly what some list of octets, of whatever length, reads as
 operation : (a : Answer) (row : List Filter) (marks : List Bool) → givenBy a row marks ≡ true → numberOf a ≡ 0
@@ -123,10 +128,11 @@ module _ (e : Element) (r : ElementInRange e) (buffer : List ℕ) where
 
   -- ---- "an operation written and read again is the same", for every operation that the writer accepts
   pub written-reads : (n : ℕ) → writeOf e buffer .written ≡ Wrote n → readElement (take n (writeOf e buffer .buffer)) ≡ e
-  unfolding readElement
+  unfolding readElement unplaced given
   written-reads n w =
       let put = why (Wrote n) w in
-      rw (put .octets, le-leb size longest (put .short)) (round e r (put .taken))
+      rw (put .octets, le-leb size longest (put .short), round e r (put .taken))
+      (placed-same (placeOf (octetsOf e)) e (operation (e .answer) (e .filters) (e .marks) (put .taken)))
 
   -- ---- "The writer puts filters in rising identifier and components in rising type."
   pub writer-order : (n : ℕ) → writeOf e buffer .written ≡ Wrote n → InOrder (framedOf (take n (writeOf e buffer .buffer)))
@@ -136,20 +142,20 @@ module _ (e : Element) (r : ElementInRange e) (buffer : List ℕ) where
 
 -- ---- the reader gives each of its numbers exactly where a step with that number refuses the value, and those before it do not
 pub reader-42 : (xs : List ℕ) → (numberOf (readElement xs .answer) ≡ 42) ↔ TooLongOrUnframed xs
-reader-42 xs = cause-says xs Operation tt
+reader-42 xs = rw (read-number xs) (cause-says xs Operation tt)
 
 pub reader-44 : (xs : List ℕ) → All Octet xs → (numberOf (readElement xs .answer) ≡ 44) ↔ SomeFilterUnfit xs
-reader-44 xs octets = cause-says xs Semantics octets
+reader-44 xs octets = rw (read-number xs) (cause-says xs Semantics octets)
 
 pub reader-45 : (xs : List ℕ) → All Octet xs → (numberOf (readElement xs .answer) ≡ 45) ↔ SomeFilterBadlyCoded xs ⊎ SomethingTwice xs
-reader-45 xs octets = cause-says xs Coding octets
+reader-45 xs octets = rw (read-number xs) (cause-says xs Coding octets)
 
 -- ---- a value whose operation is create reads as a create or as a cause
 abbrev CreateOrCause : Answer → Type 0
 CreateOrCause a = (a ≡ Filters Create) ⊎ IsCause a
 
 a-cause : (cause : Cause) → CreateOrCause (refused cause .answer)
-a-cause cause = inr (record { refusal = record { cause = cause }; is = refl })
+a-cause cause = inr (record { refusal = record { cause = cause; place = 0 }; is = refl })
 
 entries-create : (es : Entries) → CreateOrCause (judgedEntries Create es .answer)
 entries-create badly = a-cause Coding
@@ -177,10 +183,54 @@ unfolding readValue framedOf framedBy
 value-create [] h = absurd (omega arith)
 value-create (x ∷ xs) h = rw h (set-create (extensionIn x) (countIn x) xs)
 
+placed-create : (place : ℕ) (a : Answer) → CreateOrCause a → CreateOrCause (atPlace place a)
+placed-create place a (inl q) = inl (rw q refl)
+placed-create place a (inr c) = inr (record { refusal = record { cause = c .refusal .cause; place = place }; is = rw (c .is) refl })
+
 pub create-reads : (xs : List ℕ) → operationOf xs ≡ create → (readElement xs .answer ≡ Filters Create) ⊎ IsCause (readElement xs .answer)
-unfolding readElement
-create-reads xs h = go (leb (length xs) longest)
+unfolding readElement unplaced
+create-reads xs h = placed-create (placeOf xs) (unplaced xs .answer) (go (leb (length xs) longest))
   where
     go : (b : Bool) → CreateOrCause (pick b (readValue xs) (refused Operation) .answer)
     go true = value-create xs h
     go false = a-cause Operation
+
+-- ---- Document 02, 6/14: where a refused value broke
+module _ (xs : List ℕ) where
+  place-octet : placeOf xs ≤ longest
+  unfolding placeOf
+  place-octet = go (leb (length xs) longest) refl
+    where
+      go : (b : Bool) → leb (length xs) longest ≡ b → pick b (framedPlace (framedOf xs) xs) 0 ≤ longest
+      go true e = let l = leb-true (length xs) longest e in let p = rw e at (place-within xs (unframed-within xs)) in omega arith
+      go false e = omega arith
+
+  pub place-says : All Octet xs → PlaceSays xs (placeOf xs)
+  place-says octets =
+      record {
+        within = place-within xs (unframed-within xs);
+        octet = place-octet;
+        breaks = breaks-says xs;
+        badly = badly-earliest xs;
+        unfit = unfit-earliest xs octets;
+        repeated = twice-earliest xs;
+      }
+
+  module _ (refusal : Refusal) (is : readElement xs .answer ≡ Refused refusal) where
+    its-place : refusal .place ≡ placeOf xs
+    its-place = verdict-place xs refusal (ap verdictOn is)
+
+    pub refusal-placed : All Octet xs → PlaceSays xs (refusal .place)
+    refusal-placed octets = rw its-place (place-says octets)
+
+  -- the one number of the C side is the cause and the place
+  pub refusal-apart : TakenApart (placedNumber (readElement xs .answer)) (readElement xs .answer)
+  refusal-apart = go (readElement xs .answer) (λ refusal is. rw (its-place refusal is) place-octet)
+    where
+      go : (a : Answer) → ((refusal : Refusal) → a ≡ Refused refusal → refusal .place ≤ longest) → TakenApart (placedNumber a) a
+      go (Filters operation) h = record { reads = λ q. refl; cause = refl; place = λ refusal q. absurd (let z : _≡_ {A = ℕ} 0 1 = cc in omega arith) }
+      go Identifiers h = record { reads = λ q. refl; cause = refl; place = λ refusal q. absurd (let z : _≡_ {A = ℕ} 0 1 = cc in omega arith) }
+      go (Bare operation) h = record { reads = λ q. refl; cause = refl; place = λ refusal q. absurd (let z : _≡_ {A = ℕ} 0 1 = cc in omega arith) }
+      go (Refused r) h =
+          let small = h r refl in
+          record { reads = λ q. some-number (r .cause) q; cause = omega arith; place = λ refusal q. let same : r ≡ refusal = cc in rw (← same) (omega arith) }

@@ -11,8 +11,9 @@ use Rattle.filter.specs.declared.component.Filter.{Filter}
 use Rattle.filter.specs.Component.{ipv4RemoteType, ipv6RemoteType, protocolType, localPortType, localRangeType, remotePortType, remoteRangeType}
 use Rattle.filter.specs.Component.{indexType, classType, labelType}
 use Rattle.filter.specs.Build.{Component, ipv4Remote, ipv6Remote, protocol, localPort, localRange, remotePort, remoteRange, index, class, label}
-use Rattle.filter.specs.Build.{excluded, added}
+use Rattle.filter.specs.Build.{bare, excluded, added}
 use Rattle.laws.specs.Index.{allBelow}
+use Rattle.element.specs.Framing.{Raw, directionOf}
 use Rattle.element.specs.declared.contents.Coded.{Coded, the-variants.Badly, the-variants.Well}
 
 -- ---- "Component types and value lengths": a type, how many octets its value has, and what component they say
@@ -83,3 +84,7 @@ contentsFrom (suc k) f (x ∷ xs) = contentsFrom k f xs
 unfoldable pub contentsOf : Filter → List ℕ → Coded
 contentsOf f [] = Badly
 contentsOf f (t ∷ xs) = contentsFrom 0 f (t ∷ xs)
+
+-- a filter as it is framed, decoded
+unfoldable pub codedOf : Raw → Coded
+codedOf r = contentsOf (bare (r .precedence) (directionOf r)) (r .contents)

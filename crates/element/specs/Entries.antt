@@ -18,7 +18,8 @@ use Rattle.element.specs.declared.entries.Handed.the-variants.{Filter, I
 use Rattle.element.specs.declared.entries.Entries.{Entries}
 use Rattle.element.specs.Numbers.{Verdict, accepted, refusedFor, verdictOn}
 use Rattle.element.specs.Framing.{Raw, identifierIn, identifierOf, Framed, notFramed, filters, identifiers, bare, framedOf}
-use Rattle.element.specs.Read.{noFilters, noMarks, codedOf, readElement}
+use Rattle.element.specs.Read.{noFilters, noMarks, readElement}
+use Rattle.element.specs.Contents.{codedOf}
 
 -- ---- "entries in byte order, repeats included": an entry, the offset of its first octet and the offset after it
 pub record Located : Type 0 where

@@ -1,6 +1,7 @@
 pub mod Head
 pub mod Contents
 pub mod Framing
+pub mod Places
 pub mod Read
 pub mod Write
 pub mod Numbers

@@ -1,5 +1,5 @@
 -- "Numbers given": document 01's number of a cause, of what the reader gives ("0, or the reader's cause") and hands out, and of what the writer gives.
-use Prim.Native.Nat.{ℕ}
+use Prim.Native.Nat.{ℕ, _+_, _*_}
 use Rattle.element.specs.declared.answer.Cause.{Cause}
 use Rattle.element.specs.declared.answer.Cause.the-variants.{Operation, Semantics, Coding}
 use Rattle.element.specs.declared.answer.Refusal.{Refusal}
@@ -26,6 +26,13 @@ numberOf (Filters operation) = 0
 numberOf Identifiers = 0
 numberOf (Bare operation) = 0
 numberOf (Refused refusal) = causeNumber (refusal .cause)
+
+-- document 02, 6/14, for the C side: cause and place in one number, 0 of what reads
+abbrev pub placedNumber : Answer → ℕ
+placedNumber (Filters operation) = 0
+placedNumber Identifiers = 0
+placedNumber (Bare operation) = 0
+placedNumber (Refused refusal) = causeNumber (refusal .cause) * 256 + refusal .place
 
 -- "or the reader's cause": whether an answer is one
 pub data Verdict : Type 0 where

@@ -1,5 +1,5 @@
 -- The reader. "What the reader gives is one of: a filter set with its operation, an identifier set, a bare operation, or a cause. Its causes are those of
--- steps 4, 6, 7, 8 and 9 below, in that order."
+-- steps 4, 6, 7, 8 and 9 below, in that order." What is read stands first, causes without their places; the end of this page joins the two.
 use Prim.Native.Nat.{ℕ}
 use mathlib.Core.Bool.{Bool, true, false, _||_}
 use mathlib.Core.List.{List, [], _∷_, map}
@@ -9,7 +9,7 @@ use Rattle.laws.specs.Says.{pick}
 use Rattle.laws.specs.Lists.{every, repeats}
 use Rattle.filter.specs.declared.component.Filter.{Filter}
 use Rattle.filter.specs.Sizes.{placeCount}
-use Rattle.filter.specs.Build.{bare as bareFilter, emptyFilter}
+use Rattle.filter.specs.Build.{emptyFilter}
 use Rattle.filter.specs.Fittable.{fittable}
 use Rattle.element.specs.declared.answer.SetOperation.{SetOperation}
 use Rattle.element.specs.declared.answer.Cause.{Cause, the-variants.Operation, the-variants.Semantics, the-variants.Coding}
@@ -17,8 +17,9 @@ use Rattle.element.specs.declared.answer.Answer.{Answer, the-variants.Fi
 use Rattle.element.specs.declared.answer.Element.{Element}
 use Rattle.element.specs.declared.contents.Coded.{Coded, the-variants.Badly, the-variants.Well}
 use Rattle.element.specs.Head.{longest}
-use Rattle.element.specs.Contents.{contentsOf}
-use Rattle.element.specs.Framing.{Raw, identifierIn, identifierOf, directionOf, Framed, notFramed, filters, identifiers, bare, framedOf}
+use Rattle.element.specs.Framing.{Raw, identifierIn, identifierOf, Framed, notFramed, filters, identifiers, bare, framedOf}
+use Rattle.element.specs.Contents.{codedOf}
+use Rattle.element.specs.Places.{placeOf}
 
 unfoldable pub noFilters : List Filter
 noFilters = replicate placeCount emptyFilter
@@ -29,8 +30,9 @@ noMarks = replicate placeCount false
 abbrev pub withoutSets : Answer → Element
 withoutSets answer = record { answer = answer; filters = noFilters; marks = noMarks }
 
+-- its place is said apart, and is 0 until then
 abbrev pub refused : Cause → Element
-refused cause = withoutSets (Refused (record { cause = cause }))
+refused cause = withoutSets (Refused (record { cause = cause; place = 0 }))
 
 pub record Entry : Type 0 where
   pub identifier : ℕ
@@ -43,9 +45,6 @@ abbrev pub entryFittable : Entry → Bool
 entryFittable e = fittable (e .filter)
 
 -- ---- Step 7: "A badly coded filter"
-unfoldable pub codedOf : Raw → Coded
-codedOf r = contentsOf (bareFilter (r .precedence) (directionOf r)) (r .contents)
-
 pub data Entries : Type 0 where
   badly : Entries
   coded : List Entry → Entries
@@ -96,5 +95,18 @@ unfoldable pub readValue : List ℕ → Element
 readValue xs = judgedFrame (framedOf xs)
 
 -- "The value is 1 to 255 octets."
+unfoldable pub unplaced : List ℕ → Element
+unplaced xs = pick (leb (length xs) longest) (readValue xs) (refused Operation)
+
+-- ---- Document 02, 6/14: "Every refusal of the element reader should carry a place", and "Cause numbers and their order stay."
+abbrev pub atPlace : ℕ → Answer → Answer
+atPlace place (Filters operation) = Filters operation
+atPlace place Identifiers = Identifiers
+atPlace place (Bare operation) = Bare operation
+atPlace place (Refused refusal) = Refused (record { cause = refusal .cause; place = place })
+
+abbrev pub placed : ℕ → Element → Element
+placed place e = record { answer = atPlace place (e .answer); filters = e .filters; marks = e .marks }
+
 unfoldable pub readElement : List ℕ → Element
-readElement xs = pick (leb (length xs) longest) (readValue xs) (refused Operation)
+readElement xs = placed (placeOf xs) (unplaced xs)

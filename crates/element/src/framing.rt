@@ -2,7 +2,7 @@
 ghost use mathlib.Core.Path.{_≡_};
 ghost use lib.ListN.{length};
 ghost use Rattle.element.specs.Framing.{identifierIn, splitOf, parameters, restFits, framedSet, framedIdentifiers, framedBare, framedBy, framedOf};
-ghost use Rattle.element.specs.inner.Walk.{partEnd, placeOf, frameOf};
+ghost use Rattle.element.specs.inner.Walk.{partEnd, endOf, frameOf};
 use crate::answer::BareOperation;
 use crate::answer::SetOperation;
 use crate::head::ADD;
@@ -54,8 +54,8 @@ fn part_end(s: &[u8], at: usize, skip: usize) -> Place
 }
 
 // A filter's length stands after two octets.
-fn entries_end(s: &[u8], n: u8) -> Place
-    ensures { λ r. ⌜ r ≡ placeOf (length (now (s .entry))) (splitOf n (now (s .entry))) ⌝ }
+pub(crate) fn entries_end(s: &[u8], n: u8) -> Place
+    ensures { λ r. ⌜ r ≡ endOf (length (now (s .entry))) (splitOf n (now (s .entry))) ⌝ }
 {
     let mut at = 0;
     let mut i: u8 = 0;

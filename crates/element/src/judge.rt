@@ -4,8 +4,8 @@ ghost use mathlib.Core.Bool.{true, false};
 ghost use Prim.Native.Nat.{_+_, _≤_, _<_};
 ghost use lib.ListN.{length, drop, getD, set};
 ghost use Rattle.element.specs.Framing.{splitOf};
-ghost use Rattle.element.specs.Read.{codedOf};
-ghost use Rattle.element.specs.inner.Walk.{rawAt, whole, foundStart, foundSplit, verdictOf, judgedOf};
+ghost use Rattle.element.specs.Contents.{codedOf};
+ghost use Rattle.element.specs.inner.Walk.{rawAt, whole, foundStart, earlierOf, foundSplit, verdictOf, firstPlace, judgedOf};
 use crate::contents::Coded;
 use crate::contents::read_contents;
 use crate::framing::identifier_in;
@@ -23,9 +23,11 @@ pub enum Verdict {
     Fine,
 }
 
-// The row has the filters by identifier, and is empty where anything was found wrong.
+// The place is where the earliest filter begins that is wrong so, and 0 where none is. The row has the filters by identifier, and is empty where anything was
+// found wrong.
 pub struct Judged {
     pub verdict: Verdict,
+    pub place: usize,
     pub row: [Filter; PLACES],
 }
 
@@ -50,19 +52,38 @@ pub(crate) fn coded_at(s: &[u8], at: usize) -> Coded
     read_contents(Filter::bare(s[at + 1], direction), &s[from..from + l])
 }
 
-fn verdict_of(badly: bool, unfit: bool, repeated: bool) -> Verdict
+// The place found before, if any; else this one, where it is wrong. No filter begins at 0.
+fn earlier(found: usize, wrong: bool, at: usize) -> usize
+    ensures { λ r. ⌜ r ≡ earlierOf found wrong at ⌝ }
+{
+    if wrong & (found == 0) { at } else { found }
+}
+
+fn verdict_of(badly: usize, unfit: usize, repeated: usize) -> Verdict
     ensures { λ r. ⌜ r ≡ verdictOf badly unfit repeated ⌝ }
 {
-    if badly {
+    if badly != 0 {
         return Verdict::Badly;
     }
-    if unfit {
+    if unfit != 0 {
         return Verdict::Unfit;
     }
-    if repeated {
+    if repeated != 0 {
         return Verdict::Repeated;
     }
     Verdict::Fine
+}
+
+fn first_place(badly: usize, unfit: usize, repeated: usize) -> usize
+    ensures { λ r. ⌜ r ≡ firstPlace badly unfit repeated ⌝ }
+{
+    if badly != 0 {
+        return badly;
+    }
+    if unfit != 0 {
+        return unfit;
+    }
+    repeated
 }
 
 // The n filters of the value s, which are all there. What is found of them stays in locals: a state that is handed on with its row is copied each turn.
@@ -73,23 +94,21 @@ pub(crate) fn judge_all(s: &[u8], n: u8) -> Judged
     let mut row = [Filter::bare(0, 0); PLACES];
     let mut identifiers = [false; PLACES];
     let mut precedences = [false; PRECEDENCES];
-    let mut badly = false;
-    let mut unfit = false;
-    let mut repeated = false;
+    let mut badly = 0;
+    let mut unfit = 0;
+    let mut repeated = 0;
     let mut at = 1;
     let mut i: u8 = 0;
     while i < n {
+        let identifier = wide(identifier_in(s[at]));
+        let again = marked_before(&mut identifiers[..], identifier)
+            | marked_before(&mut precedences[..], wide(s[at + 1]));
+        repeated = earlier(repeated, again, at);
         let coded = coded_at(s, at);
         match coded {
-            Coded::Badly => {
-                badly = true;
-            }
+            Coded::Badly => badly = earlier(badly, true, at),
             Coded::Well(f) => {
-                let identifier = wide(identifier_in(s[at]));
-                repeated = repeated
-                    | marked_before(&mut identifiers[..], identifier)
-                    | marked_before(&mut precedences[..], wide(f.precedence));
-                unfit = unfit | !fittable(f);
+                unfit = earlier(unfit, !fittable(f), at);
                 row[identifier] = f;
             }
         }
@@ -97,8 +116,13 @@ pub(crate) fn judge_all(s: &[u8], n: u8) -> Judged
         i += 1;
     }
     let verdict = verdict_of(badly, unfit, repeated);
-    if badly | unfit | repeated {
+    let place = first_place(badly, unfit, repeated);
+    if place != 0 {
         row = [Filter::bare(0, 0); PLACES];
     }
-    Judged { verdict, row }
+    Judged {
+        verdict,
+        place,
+        row,
+    }
 }

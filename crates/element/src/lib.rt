@@ -8,6 +8,7 @@ pub mod head;
 mod judge;
 mod lengths;
 mod octets;
+mod places;
 pub mod portions;
 pub mod read;
 mod survey;

@@ -25,7 +25,7 @@ use Rattle.filter.specs.Component.{indexType, classType, labelType}
 use Rattle.filter.specs.Sizes.{precedenceCount}
 use Rattle.filter.specs.Build.{excluded, added}
 use Rattle.filter.specs.Coding.{held}
-use Rattle.filter.specs.Fittable.{fittable, placeFine}
+use Rattle.filter.specs.Fittable.{placeFine}
 use Rattle.element.specs.declared.answer.SetOperation.{SetOperation}
 use Rattle.element.specs.declared.answer.Cause.{Cause}
 use Rattle.element.specs.declared.answer.Cause.the-variants.{Operation, Semantics, Coding}
@@ -47,10 +47,11 @@ use Rattle.element.specs.declared.judge.Judged.{Judged}
 use Rattle.element.specs.declared.survey.Survey.{Survey}
 use Rattle.element.specs.declared.fields.Field.{Field}
 use Rattle.element.specs.declared.fields.Field.the-variants.{No, Narrow, Wide}
-use Rattle.element.specs.Read.{noFilters, noMarks, codedOf, marked}
+use Rattle.element.specs.Read.{noFilters, noMarks, marked}
 use Rattle.element.specs.Head.{longest}
-use Rattle.element.specs.Contents.{lengthOf, known, componentOf}
+use Rattle.element.specs.Contents.{lengthOf, known, componentOf, codedOf}
 use Rattle.element.specs.Framing.{Raw, identifierOf, Split, cut, split, Framed, notFramed, filters, identifiers, bare, framedOf}
+use Rattle.element.specs.Places.{Left, past, left, leftBy, unframedPlace, afterRaw, isBadly, isUnfit, orElse}
 use Rattle.element.specs.Entries.{Located, locatedFilters}
 use Rattle.element.specs.Write.{addressBytes, entryOctets}
 
@@ -69,10 +70,13 @@ partBy total from l = pick (leb l (total - from)) (At (from + l)) Cut
 unfoldable pub partEnd : List ℕ → ℕ → ℕ → Place
 partEnd s at skip = pick (ltb (at + skip) (length s)) (partBy (length s) (at + skip + 1) (getD s (at + skip) 0)) Cut
 
--- the end of a value's filters
-abbrev pub placeOf : ℕ → Split → Place
-placeOf total cut = Cut
-placeOf total (split rs rest) = At (total - length rest)
+-- the end of a value's list, by what is left after it, and of its filters
+abbrev pub endLeft : ℕ → Left → Place
+endLeft total past = Cut
+endLeft total (left rest) = At (total - length rest)
+
+abbrev pub endOf : ℕ → Split → Place
+endOf total q = endLeft total (leftBy q)
 
 -- how a value is framed, with the count of its list
 abbrev pub frameOf : Framed → Frame
@@ -102,54 +106,57 @@ rawAt s at = record { first = getD s at 0; precedence = getD s (at + 1) 0; conte
 unfoldable pub noPrecedences : List Bool
 noPrecedences = replicate precedenceCount false
 
--- what was found of the filters so far: those by identifier, the identifiers and precedences seen, and what is wrong
+-- what was found of the filters so far: those by identifier, the identifiers and precedences seen, where the earliest begins that is wrong in each way (0, where
+-- none is), and where the next one begins
 pub record Found : Type 0 where
   pub row : List Filter
   pub identifiers : List Bool
   pub precedences : List Bool
-  pub badly : Bool
-  pub unfit : Bool
-  pub repeated : Bool
+  pub badly : ℕ
+  pub unfit : ℕ
+  pub repeated : ℕ
+  pub at : ℕ
 
 abbrev pub foundStart : Found
-foundStart = record { row = noFilters; identifiers = noMarks; precedences = noPrecedences; badly = false; unfit = false; repeated = false }
+foundStart = record { row = noFilters; identifiers = noMarks; precedences = noPrecedences; badly = 0; unfit = 0; repeated = 0; at = 1 }
 
-abbrev pub foundWith : Found → ℕ → Coded → Found
-foundWith st identifier Badly =
-    record {
-      row = st .row;
-      identifiers = st .identifiers;
-      precedences = st .precedences;
-      badly = true;
-      unfit = st .unfit;
-      repeated = st .repeated;
-    }
-foundWith st identifier (Well f) =
-    record {
-      row = set (st .row) identifier f;
-      identifiers = set (st .identifiers) identifier true;
-      precedences = set (st .precedences) (f .precedence) true;
-      badly = st .badly;
-      unfit = st .unfit || not (fittable f);
-      repeated = st .repeated || getD (st .identifiers) identifier false || getD (st .precedences) (f .precedence) false;
-    }
+-- the place found before, if any; else this one, where it is wrong
+abbrev pub earlierOf : ℕ → Bool → ℕ → ℕ
+earlierOf found wrong at = pick (wrong && eqb found 0) at found
+
+abbrev pub rowWith : List Filter → ℕ → Coded → List Filter
+rowWith row identifier Badly = row
+rowWith row identifier (Well f) = set row identifier f
 
 unfoldable pub foundRaw : Found → Raw → Found
-foundRaw st r = foundWith st (identifierOf r) (codedOf r)
+foundRaw st r =
+    record {
+      row = rowWith (st .row) (identifierOf r) (codedOf r);
+      identifiers = set (st .identifiers) (identifierOf r) true;
+      precedences = set (st .precedences) (r .precedence) true;
+      badly = earlierOf (st .badly) (isBadly (codedOf r)) (st .at);
+      unfit = earlierOf (st .unfit) (isUnfit (codedOf r)) (st .at);
+      repeated = earlierOf (st .repeated) (getD (st .identifiers) (identifierOf r) false || getD (st .precedences) (r .precedence) false) (st .at);
+      at = afterRaw (st .at) r;
+    }
 
 abbrev pub foundSplit : Found → Split → Found
 foundSplit st cut = st
 foundSplit st (split rs rest) = fold foundRaw st rs
 
 -- the first thing that is wrong decides; the row is handed on where nothing is
-abbrev pub verdictOf : Bool → Bool → Bool → Verdict
-verdictOf badly unfit repeated = pick badly BadlyCoded (pick unfit Unfit (pick repeated Repeated Fine))
+abbrev pub verdictOf : ℕ → ℕ → ℕ → Verdict
+verdictOf badly unfit repeated = pick (eqb badly 0) (pick (eqb unfit 0) (pick (eqb repeated 0) Fine Repeated) Unfit) BadlyCoded
+
+abbrev pub firstPlace : ℕ → ℕ → ℕ → ℕ
+firstPlace badly unfit repeated = orElse badly (orElse unfit repeated)
 
 abbrev pub judgedOf : Found → Judged
 judgedOf st =
     record {
       verdict = verdictOf (st .badly) (st .unfit) (st .repeated);
-      row = pick (st .badly || st .unfit || st .repeated) noFilters (st .row);
+      place = firstPlace (st .badly) (st .unfit) (st .repeated);
+      row = pick (eqb (firstPlace (st .badly) (st .unfit) (st .repeated)) 0) (st .row) noFilters;
     }
 
 -- ---- the parts of an element, by how its value is framed
@@ -162,20 +169,30 @@ filtersIn (FiltersFrame operation n) = n
 filtersIn (IdentifiersFrame n) = 0
 filtersIn (BareFrame operation) = 0
 
-abbrev pub refusal : Cause → Answer
-refusal cause = Refused (record { cause = cause })
+abbrev pub refusal : Cause → ℕ → Answer
+refusal cause place = Refused (record { cause = cause; place = place })
 
-abbrev pub setAnswer : SetOperation → Verdict → Answer
-setAnswer operation BadlyCoded = refusal Coding
-setAnswer operation Unfit = refusal Semantics
-setAnswer operation Repeated = refusal Coding
-setAnswer operation Fine = Filters operation
+abbrev pub setAnswer : SetOperation → Verdict → ℕ → Answer
+setAnswer operation BadlyCoded place = refusal Coding place
+setAnswer operation Unfit place = refusal Semantics place
+setAnswer operation Repeated place = refusal Coding place
+setAnswer operation Fine place = Filters operation
 
-abbrev pub answerOf : Frame → Verdict → Answer
-answerOf NotFramed verdict = refusal Operation
-answerOf (FiltersFrame operation n) verdict = setAnswer operation verdict
-answerOf (IdentifiersFrame n) verdict = Identifiers
-answerOf (BareFrame operation) verdict = Bare operation
+abbrev pub answerOf : Frame → Verdict → ℕ → Answer
+answerOf NotFramed verdict place = refusal Operation place
+answerOf (FiltersFrame operation n) verdict place = setAnswer operation verdict place
+answerOf (IdentifiersFrame n) verdict place = Identifiers
+answerOf (BareFrame operation) verdict place = Bare operation
+
+-- where a value is wrong: it is not framed, or its filters are
+abbrev pub unframedWithin : List ℕ → ℕ
+unframedWithin s = pick (leb (length s) longest) (unframedPlace s) 0
+
+abbrev pub placeIn : Frame → ℕ → List ℕ → ℕ
+placeIn NotFramed judged s = unframedWithin s
+placeIn (FiltersFrame operation n) judged s = judged
+placeIn (IdentifiersFrame n) judged s = 0
+placeIn (BareFrame operation) judged s = 0
 
 -- the end of the identifiers, which come after octet 1
 abbrev pub identifiersEnd : Frame → ℕ

@@ -7,14 +7,14 @@ use native.Mathlib.Omega.{arith}
 use lib.ListN.{length, drop}
 use borrow.Author.Needs.{needs}
 use Rattle.element.specs.Framing.{splitOf}
-use Rattle.element.specs.inner.Walk.{placeOf}
+use Rattle.element.specs.inner.Walk.{endOf}
 use Rattle.element.proofs.Ending.{inside, endFrom, entry-next, entries-done}
 use Rattle.element.proofs.framing.entries_end.Statement.{statement}
 use Rattle.element.proofs.framing.entries_end.Tie as tie
 
 abbrev Inv-loop : tie.InvT-loop
 Inv-loop s n at₀ i₀ at i =
-    (i ≤ n) × (at ≤ length s) × (placeOf (length s) (splitOf (n - i) (drop at s)) ≡ placeOf (length s) (splitOf n s))
+    (i ≤ n) × (at ≤ length s) × (endOf (length s) (splitOf (n - i) (drop at s)) ≡ endOf (length s) (splitOf n s))
 
 abbrev μ-loop : tie.MeasureT-loop
 μ-loop s n at₀ i₀ at i = n - i
@@ -22,7 +22,7 @@ abbrev μ-loop : tie.MeasureT-loop
 -- the end that was found, gone on with, is the end of all
 stepped : (c : tie.After-part-end Inv-loop μ-loop)
     → let a = c .before .before .before .before .args in
-    endFrom (a .n - (c .before .before .loop .i + 1)) (a .s .now) (c .part-end .result) ≡ placeOf (length (a .s .now)) (splitOf (a .n) (a .s .now))
+    endFrom (a .n - (c .before .before .loop .i + 1)) (a .s .now) (c .part-end .result) ≡ endOf (length (a .s .now)) (splitOf (a .n) (a .s .now))
 stepped c =
     let l = c .before .before .loop in
     rw (c .part-end .ensures) (sym (entry-next _ (l .i) (c .before .loop-test .taken) _ (l .at)) ∙ l .inv .2)

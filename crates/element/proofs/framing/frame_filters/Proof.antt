@@ -7,7 +7,7 @@ use borrow.Author.Tests.{eq-eqb, ne-eqb, not-true, not-false}
 use Rattle.laws.proofs.Parts.{part-rest}
 use Rattle.element.specs.declared.framing.Place.the-variants.{At}
 use Rattle.element.specs.Framing.{splitOf, restFits}
-use Rattle.element.specs.inner.Walk.{placeOf}
+use Rattle.element.specs.inner.Walk.{endOf}
 use Rattle.element.proofs.Frames.{set-cut, set-within, set-unfit, set-fit}
 use borrow.Author.Needs.{needs}
 use Rattle.element.proofs.framing.frame_filters.Statement.{statement}
@@ -16,7 +16,7 @@ use Rattle.element.proofs.framing.frame_filters.Tie as tie
 -- where the filters end
 ended : (c : tie.After-end)
     → let a = c .before .before .before .before .before .args in
-    placeOf (length (a .s .now)) (splitOf (a .n) (a .s .now)) ≡ At (c .end .given .0 .0)
+    endOf (length (a .s .now)) (splitOf (a .n) (a .s .now)) ≡ At (c .end .given .0 .0)
 ended c = sym (c .before .before .entries-end .ensures) ∙ c .end .given .1
 
 within : (c : tie.After-end) → c .end .given .0 .0 ≤ length (c .before .before .before .before .before .args .s .now)

@@ -2,7 +2,7 @@
 -- Assumes nothing.
 use mathlib.Core.Path.{_∙_}
 use native.Mathlib.Nat.{add-sub-cancel-left}
-use Rattle.element.specs.Read.{codedOf}
+use Rattle.element.specs.Contents.{codedOf}
 use borrow.Author.Needs.{needs}
 use Rattle.element.proofs.judge.coded_at.Statement.{statement}
 use Rattle.element.proofs.judge.coded_at.Tie as tie
