@@ -31,11 +31,11 @@ use Rattle.table.specs.Bearers.{transactionAt, filterAt, build, isIdle, isDefau
 use Rattle.table.specs.Ranges.{TableInRange}
 use Rattle.table.specs.WellFormed.{wellFormed, Held, WellFormed}
 use Rattle.table.proofs.Meaning.{range-says, well-says}
-use Rattle.calls.specs.declared.reply.Cause.the-variants.{TftSemantics, TftSyntax, BearerIdentity, Transaction}
+use Rattle.calls.specs.declared.reply.Cause.the-variants.{TftSemantics, BearerIdentity, Transaction}
 use Rattle.calls.specs.declared.reply.Answer.the-variants.{Accept, Started, Refused}
 use Rattle.calls.specs.declared.reply.Refusal.the-variants.{NoIdentity, AlreadyOpen, NoBearer, BearerBusy}
 use Rattle.calls.specs.declared.reply.Outcome.{Outcome}
-use Rattle.calls.specs.Reply.{numberOf, answered, rejectedWith}
+use Rattle.calls.specs.Reply.{numberOf, rejectHead, answered, rejectedWith}
 use Rattle.calls.specs.Steps.{isOpen, closed, openedView, holdsIn, staysIn, empties}
 use Rattle.calls.specs.Modify.{malformed, mismatch, creates, deletedFilters, deletedTft, modifiedBy, modifyRead, modifyNamed, modifyOf}
 use Rattle.calls.specs.Others.{available, activateDefaultOf, activatedBy, activateRead, activateNamed, activateDedicatedOf, deactivateOf, rejectOf, startOf}
@@ -197,7 +197,7 @@ module _ (t : Table) (x : ℕ) (value : List ℕ) (Named Allowed Emptied : Type 
 -- ---- The numbers that the calls give from step 3 on, u after step 5
 module _ (t : Table) (bearer : ℕ) (o : Outcome) {u : ℕ} (given : numberIn o ≡ u) where
   modify-next : (i h d : Bool)
-      → numberIn (pick i (rejectedWith t bearer BearerIdentity) (pick h (pick d (rejectedWith t bearer TftSemantics) o) (rejectedWith t bearer TftSyntax)))
+      → numberIn (pick i (rejectedWith t bearer BearerIdentity) (pick h (pick d (rejectedWith t bearer TftSemantics) o) (answered t (rejectHead bearer))))
       ≡ pick (not i) (pick h (pick (not d) u 41) 42) 43
   modify-next true h d = refl
   modify-next false true true = refl
@@ -205,7 +205,7 @@ module _ (t : Table) (bearer : ℕ) (o : Outcome) {u : ℕ} (given : numberIn o 
   modify-next false false d = refl
 
   activate-next : (n h d : Bool)
-      → numberIn (pick n (pick h (pick d o (rejectedWith t bearer TftSemantics)) (rejectedWith t bearer TftSyntax)) (rejectedWith t bearer BearerIdentity))
+      → numberIn (pick n (pick h (pick d o (rejectedWith t bearer TftSemantics)) (answered t (rejectHead bearer))) (rejectedWith t bearer BearerIdentity))
       ≡ pick n (pick h (pick d u 41) 42) 43
   activate-next true true true = given
   activate-next true true false = refl

@@ -24,7 +24,8 @@ use Rattle.element.specs.declared.answer.Answer.the-variants.{Filters, Identifi
 use Rattle.element.specs.declared.answer.Element.{Element}
 use Rattle.element.specs.Head.{longest, deleteTft, operationOf, headFine}
 use Rattle.element.specs.Framing.{Framed, notFramed, filters, identifiers, bare, framedOf}
-use Rattle.element.specs.Read.{noFilters, noMarks, Entries, badly, coded, entriesOf, twice, entryFittable, judgedEntries, judgedFrame, readValue, readElement}
+use Rattle.element.specs.Places.{placeOf}
+use Rattle.element.specs.Read.{noFilters, noMarks, Entries, badly, coded, entriesOf, twice, entryFittable, judgedEntries, judgedFrame, readValue, unplaced, atPlace, placed, readElement}
 use Rattle.laws.specs.Lists.{every}
 use Rattle.table.specs.declared.bearer.Role.{Role}
 use Rattle.table.specs.declared.bearer.Role.the-variants.{Idle, Default, Dedicated}
@@ -63,9 +64,16 @@ Unused (readRefused refusal) e = Unit {0}
 abbrev pub UnusedIn : Element → Type 0
 UnusedIn e = Unused (e .answer) e
 
+placed-unused : (place : ℕ) (e : Element) (a : ReadAnswer) → Unused a e → Unused (atPlace place a) (placed place e)
+placed-unused place e (Filters operation) h = h
+placed-unused place e Identifiers h = h
+placed-unused place e (Bare operation) h = h
+placed-unused place e (readRefused refusal) h = tt
+
 pub unused : (value : List ℕ) → UnusedIn (readElement value)
-unfolding readElement readValue
-unused value = picked UnusedIn (leb (length value) longest) _ _ (framed (framedOf value)) tt
+unfolding readElement unplaced readValue
+unused value =
+    placed-unused (placeOf value) (unplaced value) (unplaced value .answer) (picked UnusedIn (leb (length value) longest) _ _ (framed (framedOf value)) tt)
   where
     entries : (operation : SetOperation) (es : Entries) → UnusedIn (judgedEntries operation es)
     entries operation badly = tt

@@ -13,6 +13,7 @@ pub mod Conflicts
 pub mod Overlays
 pub mod Answers
 pub mod Checks
+pub mod Places
 pub mod Closing
 pub mod Thin
 pub mod Deciding

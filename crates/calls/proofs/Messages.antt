@@ -36,6 +36,7 @@ use Rattle.calls.specs.declared.reply.Answer.{Answer}
 use Rattle.calls.specs.declared.reply.Answer.the-variants.{Accept, Reject}
 use Rattle.calls.specs.declared.reply.Cause.{Cause}
 use Rattle.calls.specs.declared.reply.Cause.the-variants.{TftSemantics, TftSyntax, BearerIdentity, FilterSemantics, FilterSyntax, Transaction}
+use Rattle.calls.specs.declared.reply.Place.{Place}
 use Rattle.calls.specs.declared.reply.Outcome.{Outcome}
 use Rattle.calls.specs.Reply.{causeNumber, causeOf, numberOf, answered, rejectedWith}
 use Rattle.calls.specs.Steps.{opensAt, closedView, closed, openedView, deletedIn, deletedView, empties, home}
@@ -163,7 +164,7 @@ cause-number FilterSyntax e = omega arith
 cause-number Transaction e = omega arith
 
 pub rejects-number : {bearer : ℕ} (a : Answer) → Rejects bearer a → numberOf a ≡ 0 → ⊥
-rejects-number a h z = ⊎-elim (λ e. let q : _≡_ {A = ℕ} 1 0 = sym (ap numberOf e) ∙ z in omega arith) (λ q. cause-number (q .0) (sym (ap numberOf (q .1)) ∙ z)) h
+rejects-number a h z = ⊎-elim (λ e. let q : _≡_ {A = ℕ} 1 0 = sym (ap numberOf e) ∙ z in omega arith) (λ q. cause-number (q .0) (sym (ap numberOf (q .1 .1)) ∙ z)) h
 
 module _ (t : Table) (ok : TableInRange t) (connection bearer x : ℕ) {role : Role} (value : List ℕ) (P : Outcome → Type 0)
     (ends : Ends t connection bearer x role value P) where
@@ -180,8 +181,8 @@ module _ (t : Table) (ok : TableInRange t) (connection bearer x : ℕ) {role : R
   between-long : (i : ℕ) → i < bearerCount → length (bearerAt between i .row) ≡ placeCount
   between-long i l = ap length (closes i l .row) ∙ long i l
 
-  rejects : (cause : Cause) → P (rejectedWith between bearer cause)
-  rejects cause = ends .refused between (Reject bearer cause) (inr (cause, refl)) closes
+  rejects : (cause : Cause) {place : Place} → P (answered between (Reject bearer cause place))
+  rejects cause {place} = ends .refused between (Reject bearer cause place) (inr (cause, (place, refl))) closes
 
   -- no bearer has a transaction that step 2 refuses
   unmatched : mismatch t x ≡ true → (i : ℕ) → i < bearerCount → WellFormed t → transactionAt t i ≡ x → transactionAt t i ≡ 0
@@ -196,7 +197,7 @@ module _ (t : Table) (ok : TableInRange t) (connection bearer x : ℕ) {role : R
   checked o h =
       let well = well-says t ok in
       by-test P (wellFormed t) _ _ (λ w.
-      by-test P (mismatch t x) _ _ (λ m. ends .refused t _ (inr (Transaction, refl)) (λ i l. stays-self t x i (unmatched m i l))) (λ _. h (well .to w)))
+      by-test P (mismatch t x) _ _ (λ m. ends .refused t _ (inr (Transaction, (_, refl))) (λ i l. stays-self t x i (unmatched m i l))) (λ _. h (well .to w)))
       (λ e. ends .refused t _ (inl refl) (λ i l. stays-self t x i (λ w. absurd (says-ne well e w))))
 
   -- ---- modify

@@ -29,11 +29,11 @@ use Rattle.table.specs.Ranges.{TableInRange}
 use Rattle.table.specs.WellFormed.{WellFormed, wellFormed}
 use Rattle.table.proofs.Meaning.{well-says}
 use Rattle.calls.specs.declared.reply.Answer.{Answer}
-use Rattle.calls.specs.declared.reply.Answer.the-variants.{Accept, Reject, Release, Reattach}
+use Rattle.calls.specs.declared.reply.Answer.the-variants.{Accept, Release, Reattach}
 use Rattle.calls.specs.declared.reply.Outcome.{Outcome}
 use Rattle.calls.specs.declared.seen.Seen.{Seen}
 use Rattle.calls.specs.declared.decide.Decision.{Decision}
-use Rattle.calls.specs.Reply.{outcome, answered, causeOf}
+use Rattle.calls.specs.Reply.{rejectFor, rejectHead, reject, outcome, answered}
 use Rattle.calls.specs.Steps.{closed, cutView, ofConnection, home, openedView}
 use Rattle.calls.specs.Lay.{takes, placedIn, loses, losesAt, conflictOnDefault, follows, laidView, released, followers, otherAt, onlyConnection, layOrRelease, layWithin, layOf, old, conflict, conflictIn}
 use Rattle.calls.specs.Modify.{mismatch}
@@ -45,7 +45,7 @@ use Rattle.calls.proofs.Conflicts.{mine-loses, other-loses}
 use Rattle.calls.proofs.Overlays.{overlaid-placed, row-loses}
 use Rattle.element.specs.Numbers.{verdictOn}
 use Rattle.element.proofs.Theorems.{create-reads}
-use Rattle.calls.specs.declared.reply.Cause.the-variants.{TftSemantics, TftSyntax, BearerIdentity}
+use Rattle.calls.specs.declared.reply.Cause.the-variants.{TftSemantics, BearerIdentity}
 use Rattle.calls.specs.Others.{available, activatedBy, activateRead, activateNamed, activateDedicatedOf}
 use Rattle.calls.specs.Checks.{Available}
 use Rattle.calls.proofs.Asked.{available-says}
@@ -270,7 +270,7 @@ module _ (t : Table) (ok : TableInRange t) (bearer link x : ℕ) (value : List �
   created-means : WellFormed t → Available t bearer → operationOf value ≡ create
       → opened (decidedCreated seen (verdictOn (e .answer)) bearer link) ≡ activatedBy (verdictOn (e .answer)) s bearer link new
   unfolding goneIn
-  created-means w free q = ⊎-elim (λ c. by c (laid-means w free (λ j m. rw c refl))) (λ c. by (c .is) (closed-o (Reject bearer (causeOf (c .refusal .cause))))) (create-reads value q)
+  created-means w free q = ⊎-elim (λ c. by c (laid-means w free (λ j m. rw c refl))) (λ c. by (c .is) (closed-o (rejectFor bearer (c .refusal)))) (create-reads value q)
     where
       by : {a : ReadAnswer} → e .answer ≡ a → opened (decidedCreated seen (verdictOn a) bearer link) ≡ activatedBy (verdictOn a) s bearer link new
           → opened (decidedCreated seen (verdictOn (e .answer)) bearer link) ≡ activatedBy (verdictOn (e .answer)) s bearer link new
@@ -284,7 +284,7 @@ module _ (t : Table) (ok : TableInRange t) (bearer link x : ℕ) (value : List �
   named-means : wellFormed t ≡ true → opened (decidedOpened seen (e .answer) bearer link value) ≡ activateNamed s bearer link value
   unfolding decidedOpened activateNamed activateRead
   named-means well =
-      ap (λ (b : Bool). opened (pick b (pick (headFine value) (pick (eqb (operationOf value) create) (decidedCreated seen (verdictOn (e .answer)) bearer link) (stopped (Reject bearer TftSemantics) true)) (stopped (Reject bearer TftSyntax) true)) (stopped (Reject bearer BearerIdentity) true))) available-same
+      ap (λ (b : Bool). opened (pick b (pick (headFine value) (pick (eqb (operationOf value) create) (decidedCreated seen (verdictOn (e .answer)) bearer link) (stopped (reject bearer TftSemantics) true)) (stopped (rejectHead bearer) true)) (stopped (reject bearer BearerIdentity) true))) available-same
       ∙ by-pick opened (available s bearer && isDefault (roleOf s link)) _ _ _ _ (λ a.
       by-pick opened (headFine value) _ _ _ _ (λ _.
       by-pick opened (eqb (operationOf value) create) _ _ _ _ (λ q. created-means (well-says t ok .to well) (free (both (available s bearer) (isDefault (roleOf s link)) a .0)) (says-eq (operationOf value) create .to q)) (λ _. closed-o _)) (λ _. closed-o _)) (λ _. closed-o _)

@@ -25,14 +25,14 @@ use Rattle.table.specs.WellFormed.{wellFormed}
 use Rattle.calls.specs.declared.reply.Cause.the-variants.{BearerIdentity}
 use Rattle.calls.specs.declared.reply.Refusal.the-variants.{NotWellFormed, NotOpen, NoIdentity, AlreadyOpen, NoBearer, BearerBusy}
 use Rattle.calls.specs.declared.reply.Answer.{Answer}
-use Rattle.calls.specs.declared.reply.Answer.the-variants.{Accept, Reject, Closed, Refused}
+use Rattle.calls.specs.declared.reply.Answer.the-variants.{Accept, Closed, Refused}
 use Rattle.calls.specs.declared.reply.Outcome.{Outcome}
 use Rattle.calls.specs.declared.seen.Seen.{Seen}
 use Rattle.calls.specs.declared.plain.Plain.{Plain}
 use Rattle.calls.specs.declared.plain.Plain.the-variants.{Default as askDefault, Deactivate as askDeactivate, Reject as askReject, Start as askStart}
 use Rattle.calls.specs.declared.plain.Step.{Step}
 use Rattle.calls.specs.declared.plain.Turn.{Turn}
-use Rattle.calls.specs.Reply.{causeNumber, answered}
+use Rattle.calls.specs.Reply.{causeNumber, reject, answered}
 use Rattle.calls.specs.Steps.{opensAt, isOpen, ownerOf, closedView, closed, cutView, ofConnection, isAt, droppedBy, dropped}
 use Rattle.calls.specs.Others.{activateDefaultOf, deactivateOf, rejectOf, startOf}
 use Rattle.calls.specs.inner.Overlay.{glancedOf}
@@ -196,7 +196,7 @@ module _ (t : Table) (ok : TableInRange t) where
   unfolding activateDefaultOf decidedDefault opening turnOf
   default-means bearer =
       by-pick itself (wellFormed t) _ _ _ _
-      (rw (role-seen bearer) (by-pick itself (isIdentity bearer && isIdle (roleOf t bearer)) _ _ _ _ refl (stays (Reject bearer BearerIdentity))))
+      (rw (role-seen bearer) (by-pick itself (isIdentity bearer && isIdle (roleOf t bearer)) _ _ _ _ refl (stays (reject bearer BearerIdentity))))
       (stays (Refused NotWellFormed))
 
   deactivate-means : (bearer x : ℕ) → Means (askDeactivate bearer x)

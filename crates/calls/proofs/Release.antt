@@ -205,7 +205,7 @@ module _ (t : Table) (connection bearer x : ℕ) (s : Table) (ready : Ready t co
 -- a refusal ends no connection
 ends-number : (a : Answer) → EndsConnection a → numberOf a ≡ 0
 ends-number (Accept bearer) e = refl
-ends-number (Reject bearer cause) e = absurd e
+ends-number (Reject bearer cause place) e = absurd e
 ends-number (Release connection) e = refl
 ends-number Reattach e = refl
 ends-number (Started transaction) e = refl

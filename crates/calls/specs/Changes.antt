@@ -21,6 +21,7 @@ use Rattle.table.specs.Bearers.{bearerCount, indexOf, identityOf, bearerAt, inR
 use Rattle.table.specs.Ranges.{TableInRange}
 use Rattle.table.specs.WellFormed.{Held, WellFormed}
 use Rattle.calls.specs.declared.reply.Cause.{Cause}
+use Rattle.calls.specs.declared.reply.Place.{Place}
 use Rattle.calls.specs.declared.reply.Refusal.the-variants.{NotWellFormed}
 use Rattle.calls.specs.declared.reply.Answer.{Answer}
 use Rattle.calls.specs.declared.reply.Answer.the-variants.{Accept, Reject, Release, Reattach, Started, Closed, Synchronised, Refused}
@@ -40,7 +41,7 @@ Refuses o = numberOf (o .reply .answer) ≡ 0 → ⊥
 
 -- a message is refused by a reject with the received identity, or with 1 and no reply
 abbrev pub Rejects : ℕ → Answer → Type 0
-Rejects bearer a = (a ≡ Refused NotWellFormed) ⊎ ((cause : Cause) × (a ≡ Reject bearer cause))
+Rejects bearer a = (a ≡ Refused NotWellFormed) ⊎ ((cause : Cause) × ((place : Place) × (a ≡ Reject bearer cause place)))
 
 -- the number given is one of these
 abbrev pub Gives : List ℕ → Outcome → Type 0
@@ -163,7 +164,7 @@ pub record FollowUpList (t : Table) (connection bearer : ℕ) (value : List ℕ)
 -- an accept or a reject is sent; else there is no reply
 abbrev pub SendsReply : Answer → Type 0
 SendsReply (Accept bearer) = Unit {0}
-SendsReply (Reject bearer cause) = Unit {0}
+SendsReply (Reject bearer cause place) = Unit {0}
 SendsReply (Release default) = ⊥
 SendsReply Reattach = ⊥
 SendsReply (Started transaction) = ⊥
@@ -174,7 +175,7 @@ SendsReply (Refused refusal) = ⊥
 -- "release", or "detach and re-attach"
 abbrev pub EndsConnection : Answer → Type 0
 EndsConnection (Accept bearer) = ⊥
-EndsConnection (Reject bearer cause) = ⊥
+EndsConnection (Reject bearer cause place) = ⊥
 EndsConnection (Release default) = Unit {0}
 EndsConnection Reattach = Unit {0}
 EndsConnection (Started transaction) = ⊥

@@ -10,11 +10,18 @@ use Rattle.filter.specs.Sizes.{placeCount}
 use Rattle.element.specs.declared.answer.Answer.the-variants.{Identifiers}
 use Rattle.element.specs.Numbers.{numberOf}
 use Rattle.element.specs.Head.{longest, operationOf, create, deleteTft, noOperation}
+use Rattle.element.specs.Places.{placeOf}
 use Rattle.element.specs.Read.{readElement}
 use Rattle.table.specs.declared.bearer.Role.the-variants.{Idle}
 use Rattle.table.specs.declared.bearer.Table.{Table}
 use Rattle.table.specs.Bearers.{firstIdentity, lastIdentity, bearerCount, lastTransaction, indexOf, roleAt, transactionAt, filterAt}
 use Rattle.table.specs.WellFormed.{Held, ActiveDefault, WellFormed}
+use Rattle.calls.specs.declared.reply.Cause.{Cause}
+use Rattle.calls.specs.declared.reply.Cause.the-variants.{TftSemantics, TftSyntax, BearerIdentity, FilterSemantics, FilterSyntax, Transaction}
+use Rattle.calls.specs.declared.reply.Place.{Place}
+use Rattle.calls.specs.declared.reply.Place.the-variants.{Nowhere, At}
+use Rattle.calls.specs.declared.reply.Answer.{Answer}
+use Rattle.calls.specs.declared.reply.Answer.the-variants.{Accept, Reject, Release, Reattach, Started, Closed, Synchronised, Refused}
 use Rattle.calls.specs.Changes.{IsDedicated, ButClosed}
 
 -- ---- The steps, each as what holds where it refuses nothing
@@ -125,3 +132,34 @@ pub record StartNumbered (t : Table) (x bearer number : ℕ) : Type 0 where
   -- "identity already open"
   pub is5 : (number ≡ 5) ↔ (WellFormed t × ((NoIdentity x → ⊥) × (Active t bearer × ((transactionAt t (indexOf bearer) ≡ 0) × Open t x))))
   pub is0 : (number ≡ 0) ↔ (WellFormed t × ((NoIdentity x → ⊥) × (Active t bearer × ((transactionAt t (indexOf bearer) ≡ 0) × (Open t x → ⊥)))))
+
+-- ---- Document 02, 6/14: the place of a reject. 42, 44 and 45 have that of the element, which is 0 where step 4 refuses; 41, 43 and 47 have none
+abbrev pub placeFor : Cause → List ℕ → Place
+placeFor TftSemantics value = Nowhere
+placeFor TftSyntax value = At (placeOf value)
+placeFor BearerIdentity value = Nowhere
+placeFor FilterSemantics value = At (placeOf value)
+placeFor FilterSyntax value = At (placeOf value)
+placeFor Transaction value = Nowhere
+
+-- of the answer to a message with this element
+abbrev pub Placed : List ℕ → Answer → Type 0
+Placed value (Accept bearer) = Unit {0}
+Placed value (Reject bearer cause place) = place ≡ placeFor cause value
+Placed value (Release default) = Unit {0}
+Placed value Reattach = Unit {0}
+Placed value (Started transaction) = Unit {0}
+Placed value (Closed transaction) = Unit {0}
+Placed value Synchronised = Unit {0}
+Placed value (Refused refusal) = Unit {0}
+
+-- of the answer to a message without an element: no reject has a place
+abbrev pub Unplaced : Answer → Type 0
+Unplaced (Accept bearer) = Unit {0}
+Unplaced (Reject bearer cause place) = place ≡ Nowhere
+Unplaced (Release default) = Unit {0}
+Unplaced Reattach = Unit {0}
+Unplaced (Started transaction) = Unit {0}
+Unplaced (Closed transaction) = Unit {0}
+Unplaced Synchronised = Unit {0}
+Unplaced (Refused refusal) = Unit {0}

@@ -17,11 +17,11 @@ use Rattle.table.specs.declared.bearer.Table.{Table}
 use Rattle.filter.specs.Sizes.{placeCount}
 use Rattle.table.specs.Bearers.{indexOf, build, isIdle, isDedicated, roleOf}
 use Rattle.table.specs.WellFormed.{wellFormed}
-use Rattle.calls.specs.declared.reply.Cause.the-variants.{TftSemantics, TftSyntax, BearerIdentity, Transaction}
+use Rattle.calls.specs.declared.reply.Cause.the-variants.{TftSemantics, BearerIdentity, Transaction}
 use Rattle.calls.specs.declared.reply.Refusal.the-variants.{NotWellFormed}
 use Rattle.calls.specs.declared.reply.Answer.the-variants.{Accept, Refused}
 use Rattle.calls.specs.declared.reply.Outcome.{Outcome}
-use Rattle.calls.specs.Reply.{causeOf, answered, rejectedWith}
+use Rattle.calls.specs.Reply.{rejectFor, rejectHead, answered, rejectedWith}
 use Rattle.calls.specs.Steps.{isOpen, closed, deletedView, empties}
 use Rattle.calls.specs.Lay.{layOf}
 
@@ -51,7 +51,7 @@ deletedTft t bearer = answered (build (deletedView t (indexOf bearer) (replicate
 
 -- Steps 6 to 9 are the reader's
 abbrev pub modifiedBy : ReadAnswer → Table → ℕ → Element → Outcome
-modifiedBy (readRefused refusal) t bearer e = rejectedWith t bearer (causeOf (refusal .cause))
+modifiedBy (readRefused refusal) t bearer e = answered t (rejectFor bearer refusal)
 modifiedBy (Filters operation) t bearer e = layOf t bearer (e .filters) (creates operation)
 modifiedBy Identifiers t bearer e = deletedFilters t bearer (e .marks)
 modifiedBy (Bare DeleteTft) t bearer e = deletedTft t bearer
@@ -67,7 +67,7 @@ modifyRead t bearer value =
 unfoldable pub modifyNamed : Table → ℕ → List ℕ → Outcome
 modifyNamed t bearer value =
     pick (isIdle (roleOf t bearer)) (rejectedWith t bearer BearerIdentity)
-    (pick (headFine value) (modifyRead t bearer value) (rejectedWith t bearer TftSyntax))
+    (pick (headFine value) (modifyRead t bearer value) (answered t (rejectHead bearer)))
 
 unfoldable pub modifyOf : Table → ℕ → ℕ → List ℕ → Outcome
 modifyOf t bearer x value =

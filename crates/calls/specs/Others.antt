@@ -12,11 +12,11 @@ use Rattle.table.specs.declared.bearer.Role.the-variants.{Default, Dedicated}
 use Rattle.table.specs.declared.bearer.Table.{Table}
 use Rattle.table.specs.Bearers.{isIdentity, indexOf, transactionAt, build, isIdle, isDefault, roleOf}
 use Rattle.table.specs.WellFormed.{wellFormed}
-use Rattle.calls.specs.declared.reply.Cause.the-variants.{TftSemantics, TftSyntax, BearerIdentity, Transaction}
+use Rattle.calls.specs.declared.reply.Cause.the-variants.{TftSemantics, BearerIdentity, Transaction}
 use Rattle.calls.specs.declared.reply.Refusal.the-variants.{NotOpen, NoIdentity, AlreadyOpen, NoBearer, BearerBusy}
 use Rattle.calls.specs.declared.reply.Answer.the-variants.{Accept, Started, Closed, Refused}
 use Rattle.calls.specs.declared.reply.Outcome.{Outcome}
-use Rattle.calls.specs.Reply.{causeNumber, causeOf, answered, rejectedWith}
+use Rattle.calls.specs.Reply.{causeNumber, rejectFor, rejectHead, answered, rejectedWith}
 use Rattle.calls.specs.Steps.{isOpen, ownerOf, closed, startedView, openedView, dropped}
 use Rattle.calls.specs.Lay.{layOf}
 use Rattle.calls.specs.Modify.{malformed, mismatch}
@@ -34,7 +34,7 @@ activateDefaultOf t bearer =
 -- step 5 refuses any operation but create with 41; a conflict on the default releases the connection, and the new bearer stays idle."
 -- after step 5 the value is a create, which reads as a create or as a cause (`create-reads`): the cause, or laying the filters
 abbrev pub activatedBy : Verdict → Table → ℕ → ℕ → List Filter → Outcome
-activatedBy (refusedFor refusal) t bearer link new = rejectedWith t bearer (causeOf (refusal .cause))
+activatedBy (refusedFor refusal) t bearer link new = answered t (rejectFor bearer refusal)
 activatedBy accepted t bearer link new = layOf (build (openedView t (indexOf bearer) (Dedicated link))) bearer new true
 
 unfoldable pub activateRead : Table → ℕ → ℕ → List ℕ → Outcome
@@ -45,7 +45,7 @@ activateRead t bearer link value =
 unfoldable pub activateNamed : Table → ℕ → ℕ → List ℕ → Outcome
 activateNamed t bearer link value =
     pick (available t bearer && isDefault (roleOf t link))
-    (pick (headFine value) (activateRead t bearer link value) (rejectedWith t bearer TftSyntax)) (rejectedWith t bearer BearerIdentity)
+    (pick (headFine value) (activateRead t bearer link value) (answered t (rejectHead bearer))) (rejectedWith t bearer BearerIdentity)
 
 unfoldable pub activateDedicatedOf : Table → ℕ → ℕ → ℕ → List ℕ → Outcome
 activateDedicatedOf t bearer link x value =

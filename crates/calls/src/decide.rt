@@ -12,10 +12,11 @@ ghost use Rattle.calls.specs.inner.Decide.{stopped, homeOf, conflictSeen
 use crate::reply::Answer;
 use crate::reply::Cause;
 use crate::reply::FollowUps;
+use crate::reply::Place;
 use crate::reply::Refusal;
 use crate::reply::Reply;
-use crate::reply::cause_of;
 use crate::reply::none_follow;
+use crate::reply::reject_for;
 use crate::seen::Seen;
 use element::head::CREATE;
 use element::head::DELETE_TFT;
@@ -171,14 +172,14 @@ fn decide_by(seen: [Seen; BEARERS], bearer: u8, role: Role, said: element::Answe
 {
     let connection = home_of(role, bearer);
     match said {
-        element::Answer::Refused(refusal) => {
-            let cause = refusal.cause;
-            stop(Answer::Reject(bearer, cause_of(cause)), true)
-        }
+        element::Answer::Refused(refusal) => stop(reject_for(bearer, refusal), true),
         element::Answer::Filters(_) => decide_laid(seen, bearer, connection),
         element::Answer::Identifiers => {
             if is_dedicated(role) & empties_seen(seen, bearer) {
-                return stop(Answer::Reject(bearer, Cause::TftSemantics), true);
+                return stop(
+                    Answer::Reject(bearer, Cause::TftSemantics, Place::Nowhere),
+                    true,
+                );
             }
             decide_laid(seen, bearer, connection)
         }
@@ -191,13 +192,19 @@ fn decide_named(seen: [Seen; BEARERS], bearer: u8, said: element::Answer, value:
 {
     let role = role_seen(seen, bearer);
     if is_idle(role) {
-        return stop(Answer::Reject(bearer, Cause::BearerIdentity), true);
+        return stop(
+            Answer::Reject(bearer, Cause::BearerIdentity, Place::Nowhere),
+            true,
+        );
     }
     if !head_fine(value) {
-        return stop(Answer::Reject(bearer, Cause::TftSyntax), true);
+        return stop(Answer::Reject(bearer, Cause::TftSyntax, Place::At(0)), true);
     }
     if is_dedicated(role) & (operation_of(value) == DELETE_TFT) {
-        return stop(Answer::Reject(bearer, Cause::TftSemantics), true);
+        return stop(
+            Answer::Reject(bearer, Cause::TftSemantics, Place::Nowhere),
+            true,
+        );
     }
     decide_by(seen, bearer, role, said)
 }
@@ -216,7 +223,10 @@ pub(crate) fn decide(
         return stop(Answer::Refused(Refusal::NotWellFormed), false);
     }
     if mismatches(seen, transaction) {
-        return stop(Answer::Reject(bearer, Cause::Transaction), false);
+        return stop(
+            Answer::Reject(bearer, Cause::Transaction, Place::Nowhere),
+            false,
+        );
     }
     decide_named(seen, bearer, said, value)
 }
@@ -232,10 +242,7 @@ fn decide_created(seen: [Seen; BEARERS], bearer: u8, link: u8, said: element::An
     ensures { λ r. ⌜ r ≡ decidedCreated seen (verdictOn said) bearer link ⌝ }
 {
     match said {
-        element::Answer::Refused(refusal) => {
-            let cause = refusal.cause;
-            stop(Answer::Reject(bearer, cause_of(cause)), true)
-        }
+        element::Answer::Refused(refusal) => stop(reject_for(bearer, refusal), true),
         _ => decide_laid(seen, bearer, link),
     }
 }
@@ -251,13 +258,19 @@ fn decide_opened(
 {
     let allowed = is_available(seen, bearer) & is_default(role_seen(seen, link));
     if !allowed {
-        return stop(Answer::Reject(bearer, Cause::BearerIdentity), true);
+        return stop(
+            Answer::Reject(bearer, Cause::BearerIdentity, Place::Nowhere),
+            true,
+        );
     }
     if !head_fine(value) {
-        return stop(Answer::Reject(bearer, Cause::TftSyntax), true);
+        return stop(Answer::Reject(bearer, Cause::TftSyntax, Place::At(0)), true);
     }
     if !(operation_of(value) == CREATE) {
-        return stop(Answer::Reject(bearer, Cause::TftSemantics), true);
+        return stop(
+            Answer::Reject(bearer, Cause::TftSemantics, Place::Nowhere),
+            true,
+        );
     }
     decide_created(seen, bearer, link, said)
 }
@@ -277,7 +290,10 @@ pub(crate) fn decide_dedicated(
         return stop(Answer::Refused(Refusal::NotWellFormed), false);
     }
     if mismatches(seen, transaction) {
-        return stop(Answer::Reject(bearer, Cause::Transaction), false);
+        return stop(
+            Answer::Reject(bearer, Cause::Transaction, Place::Nowhere),
+            false,
+        );
     }
     decide_opened(seen, bearer, link, said, value)
 }

@@ -14,5 +14,6 @@ pub use reply::Answer;
 pub use reply::Cause;
 pub use reply::FollowUps;
 pub use reply::Outcome;
+pub use reply::Place;
 pub use reply::Refusal;
 pub use reply::Reply;

@@ -11,6 +11,7 @@ use crate::decide::opens_any;
 use crate::decide::role_seen;
 use crate::reply::Answer;
 use crate::reply::Cause;
+use crate::reply::Place;
 use crate::reply::Refusal;
 use crate::seen::Seen;
 use crate::seen::glance_at;
@@ -157,7 +158,7 @@ fn decide_default(seen: [Seen; BEARERS], bearer: u8) -> Step
     if is_available(seen, bearer) {
         open_default(bearer)
     } else {
-        stay(Answer::Reject(bearer, Cause::BearerIdentity))
+        stay(Answer::Reject(bearer, Cause::BearerIdentity, Place::Nowhere))
     }
 }
 

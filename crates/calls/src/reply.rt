@@ -1,7 +1,7 @@
 // What a call gives.
 ghost use mathlib.Core.Path.{_≡_};
 ghost use mathlib.Core.List.{[]};
-ghost use Rattle.calls.specs.Reply.{causeNumber, refusalNumber, numberOf, causeOf, followOf, answered};
+ghost use Rattle.calls.specs.Reply.{causeNumber, refusalNumber, numberOf, causeOf, rejectFor, followOf, answered};
 use table::Table;
 use table::bearer::BEARERS;
 
@@ -28,10 +28,16 @@ pub enum Refusal {
     MessageFraming,
 }
 
-// Accept and Reject are sent; of the others no reply is.
+// Document 02, 6/14: where the element's value broke, an offset from 0 in it. What is wrong elsewhere has no place.
+pub enum Place {
+    Nowhere,
+    At(u8),
+}
+
+// Accept and Reject are sent; of the others no reply is. The place is not sent.
 pub enum Answer {
     Accept(u8),
-    Reject(u8, Cause),
+    Reject(u8, Cause, Place),
     Release(u8),
     Reattach,
     Started(u8),
@@ -91,7 +97,7 @@ pub fn number(answer: Answer) -> u8
 {
     match answer {
         Answer::Accept(_) => 0,
-        Answer::Reject(_, cause) => cause_number(cause),
+        Answer::Reject(_, cause, _) => cause_number(cause),
         Answer::Release(_) => 0,
         Answer::Reattach => 0,
         Answer::Started(_) => 0,
@@ -101,7 +107,7 @@ pub fn number(answer: Answer) -> u8
     }
 }
 
-pub(crate) fn cause_of(cause: element::Cause) -> Cause
+fn cause_of(cause: element::Cause) -> Cause
     ensures { λ r. ⌜ r ≡ causeOf cause ⌝ }
 {
     match cause {
@@ -109,6 +115,14 @@ pub(crate) fn cause_of(cause: element::Cause) -> Cause
         element::Cause::Semantics => Cause::FilterSemantics,
         element::Cause::Coding => Cause::FilterSyntax,
     }
+}
+
+// The reader's refusal, in the reply.
+pub(crate) fn reject_for(bearer: u8, refusal: element::Refusal) -> Answer
+    ensures { λ r. ⌜ r ≡ rejectFor bearer refusal ⌝ }
+{
+    let cause = refusal.cause;
+    Answer::Reject(bearer, cause_of(cause), Place::At(refusal.place))
 }
 
 pub(crate) fn none_follow() -> FollowUps

@@ -17,15 +17,15 @@ use Rattle.table.specs.declared.bearer.Role.{Role}
 use Rattle.table.specs.declared.bearer.Role.the-variants.{Idle, Default, Dedicated}
 use Rattle.table.specs.declared.bearer.Table.{Table}
 use Rattle.table.specs.Bearers.{bearerCount, lastTransaction, isIdentity, indexOf, identityOf, bearerAt, roleAt, View, isIdle, isDefault, isDedicated, inConnection}
-use Rattle.calls.specs.declared.reply.Cause.the-variants.{TftSemantics, TftSyntax, BearerIdentity, Transaction}
+use Rattle.calls.specs.declared.reply.Cause.the-variants.{TftSemantics, BearerIdentity, Transaction}
 use Rattle.calls.specs.declared.reply.Refusal.the-variants.{NotWellFormed}
 use Rattle.calls.specs.declared.reply.Answer.{Answer}
-use Rattle.calls.specs.declared.reply.Answer.the-variants.{Accept, Reject, Release, Reattach, Refused}
+use Rattle.calls.specs.declared.reply.Answer.the-variants.{Accept, Release, Reattach, Refused}
 use Rattle.calls.specs.declared.seen.Seen.{Seen}
 use Rattle.calls.specs.declared.decide.Decision.{Decision}
 use Rattle.calls.specs.declared.decide.Fate.{Fate}
 use Rattle.calls.specs.declared.reply.Reply.{Reply}
-use Rattle.calls.specs.Reply.{causeOf, followOf}
+use Rattle.calls.specs.Reply.{rejectFor, rejectHead, reject, followOf}
 use Rattle.calls.specs.inner.Overlay.{overlaidIn}
 
 abbrev pub unseen : Seen
@@ -79,41 +79,41 @@ module _ (seen : List Seen) where
       (record { answer = Accept bearer; connection = connection; close = true; change = true; cut = false })
 
   abbrev pub decidedBy : ReadAnswer → ℕ → Role → Decision
-  decidedBy (readRefused refusal) bearer role = stopped (Reject bearer (causeOf (refusal .cause))) true
+  decidedBy (readRefused refusal) bearer role = stopped (rejectFor bearer refusal) true
   decidedBy (Filters operation) bearer role = decidedLaid bearer (homeOf bearer role)
   decidedBy Identifiers bearer role =
-      pick (isDedicated role && emptiesSeen bearer) (stopped (Reject bearer TftSemantics) true) (decidedLaid bearer (homeOf bearer role))
+      pick (isDedicated role && emptiesSeen bearer) (stopped (reject bearer TftSemantics) true) (decidedLaid bearer (homeOf bearer role))
   decidedBy (Bare operation) bearer role = decidedLaid bearer (homeOf bearer role)
 
   unfoldable pub decidedNamed : ReadAnswer → ℕ → List ℕ → Decision
   decidedNamed said bearer value =
-      pick (isIdle (roleSeen bearer)) (stopped (Reject bearer BearerIdentity) true)
+      pick (isIdle (roleSeen bearer)) (stopped (reject bearer BearerIdentity) true)
       (pick (headFine value)
-      (pick (isDedicated (roleSeen bearer) && eqb (operationOf value) deleteTft) (stopped (Reject bearer TftSemantics) true)
-      (decidedBy said bearer (roleSeen bearer))) (stopped (Reject bearer TftSyntax) true))
+      (pick (isDedicated (roleSeen bearer) && eqb (operationOf value) deleteTft) (stopped (reject bearer TftSemantics) true)
+      (decidedBy said bearer (roleSeen bearer))) (stopped (rejectHead bearer) true))
 
   unfoldable pub decided : Bool → ReadAnswer → ℕ → ℕ → List ℕ → Decision
   decided fine said bearer x value =
-      pick fine (pick (mismatchSeen x) (stopped (Reject bearer Transaction) false) (decidedNamed said bearer value)) (stopped (Refused NotWellFormed) false)
+      pick fine (pick (mismatchSeen x) (stopped (reject bearer Transaction) false) (decidedNamed said bearer value)) (stopped (Refused NotWellFormed) false)
 
   -- ---- dedicated activation
   abbrev pub availableSeen : ℕ → Bool
   availableSeen bearer = isIdentity bearer && isIdle (roleSeen bearer)
 
   abbrev pub decidedCreated : Verdict → ℕ → ℕ → Decision
-  decidedCreated (refusedFor refusal) bearer link = stopped (Reject bearer (causeOf (refusal .cause))) true
+  decidedCreated (refusedFor refusal) bearer link = stopped (rejectFor bearer refusal) true
   decidedCreated accepted bearer link = decidedLaid bearer link
 
   unfoldable pub decidedOpened : ReadAnswer → ℕ → ℕ → List ℕ → Decision
   decidedOpened said bearer link value =
       pick (availableSeen bearer && isDefault (roleSeen link))
       (pick (headFine value)
-      (pick (eqb (operationOf value) create) (decidedCreated (verdictOn said) bearer link) (stopped (Reject bearer TftSemantics) true))
-      (stopped (Reject bearer TftSyntax) true)) (stopped (Reject bearer BearerIdentity) true)
+      (pick (eqb (operationOf value) create) (decidedCreated (verdictOn said) bearer link) (stopped (reject bearer TftSemantics) true))
+      (stopped (rejectHead bearer) true)) (stopped (reject bearer BearerIdentity) true)
 
   unfoldable pub decidedDedicated : Bool → ReadAnswer → ℕ → ℕ → ℕ → List ℕ → Decision
   decidedDedicated fine said bearer link x value =
-      pick fine (pick (mismatchSeen x) (stopped (Reject bearer Transaction) false) (decidedOpened said bearer link value)) (stopped (Refused NotWellFormed) false)
+      pick fine (pick (mismatchSeen x) (stopped (reject bearer Transaction) false) (decidedOpened said bearer link value)) (stopped (Refused NotWellFormed) false)
 
   -- ---- who loses a filter is told of it, where something is changed
   unfoldable pub followsSeen : Decision → ℕ → Bool

@@ -15,13 +15,13 @@ use Rattle.table.specs.Bearers.{bearerCount, lastTransaction, indexOf, identity
 use Rattle.calls.specs.declared.reply.Cause.the-variants.{BearerIdentity}
 use Rattle.calls.specs.declared.reply.Refusal.the-variants.{NotWellFormed, NotOpen, NoIdentity, AlreadyOpen, NoBearer, BearerBusy}
 use Rattle.calls.specs.declared.reply.Answer.{Answer}
-use Rattle.calls.specs.declared.reply.Answer.the-variants.{Accept, Reject, Started, Closed, Refused}
+use Rattle.calls.specs.declared.reply.Answer.the-variants.{Accept, Started, Closed, Refused}
 use Rattle.calls.specs.declared.seen.Seen.{Seen}
 use Rattle.calls.specs.declared.plain.Plain.{Plain}
 use Rattle.calls.specs.declared.plain.Plain.the-variants.{Default as askDefault, Deactivate as askDeactivate, Reject as askReject, Start as askStart}
 use Rattle.calls.specs.declared.plain.Step.{Step}
 use Rattle.calls.specs.declared.plain.Turn.{Turn}
-use Rattle.calls.specs.Reply.{causeNumber}
+use Rattle.calls.specs.Reply.{causeNumber, reject}
 use Rattle.calls.specs.inner.Overlay.{glancedOf}
 use Rattle.calls.specs.inner.Decide.{seenIn, roleSeen, opensSeen, availableSeen}
 
@@ -87,7 +87,7 @@ module _ (seen : List Seen) where
   transactionSeen i = seenIn seen i .transaction
 
   unfoldable pub decidedDefault : ℕ → Step
-  decidedDefault bearer = pick (availableSeen seen bearer) (opening bearer) (stayed (Reject bearer BearerIdentity))
+  decidedDefault bearer = pick (availableSeen seen bearer) (opening bearer) (stayed (reject bearer BearerIdentity))
 
   unfoldable pub decidedReject : ℕ → ℕ → Step
   decidedReject x cause =

@@ -32,7 +32,7 @@ decide-by-spec =
     (λ c κs. search needs)
     (λ c. search needs)
     (λ c κs. search needs)
-    (λ c. rw (c .before .before .before .said .given .1) (rw (c .before .cause-of .ensures) at (c .stop .ensures)))
+    (λ c. rw (c .before .before .before .said .given .1) (rw (c .before .reject-for .ensures) at (c .stop .ensures)))
     (λ c. let p = c .before in rw (p .enum-told .given .1) (rw (p .before .before .home-of .ensures) at (c .decide-laid .ensures)))
     (λ c. let p = c .before .before in
     rw (p .before .before .enum-told2 .given .1, sym (tested p) ∙ c .before .if1 .left) (rw (p .before .before .before .before .home-of .ensures) at (c .decide-laid2 .ensures)))

@@ -27,5 +27,5 @@ decide-created-spec =
     (λ c κs. search needs)
     (λ c κs. search needs)
     (λ c κs. search needs)
-    (λ c. rw (c .before .before .before .said .given .1) (rw (c .before .cause-of .ensures) at (c .stop .ensures)))
+    (λ c. rw (c .before .before .before .said .given .1) (rw (c .before .reject-for .ensures) at (c .stop .ensures)))
     (λ c. rw (no-cause (c .before .before .args .said) (c .before .match .keys2)) (c .decide-laid .ensures)))
