@@ -19,6 +19,7 @@ use Rattle.table.specs.Bearers.{indexOf, build, isIdle, isDefault, isDedicated,
 use Rattle.table.specs.WellFormed.{wellFormed}
 use Rattle.calls.specs.declared.reply.Cause.{Cause}
 use Rattle.calls.specs.declared.reply.Cause.the-variants.{TftSemantics, TftSyntax, BearerIdentity, Transaction}
+use Rattle.calls.specs.declared.reply.Place.{Place}
 use Rattle.calls.specs.declared.reply.Refusal.the-variants.{NotWellFormed}
 use Rattle.calls.specs.declared.reply.Answer.{Answer}
 use Rattle.calls.specs.declared.reply.Answer.the-variants.{Accept, Reject, Release, Reattach, Started, Closed, Synchronised, Refused}
@@ -34,7 +35,7 @@ use Rattle.messages.specs.Meaning.{bearerOf}
 use Rattle.messages.proofs.Accepting.{no-operation}
 
 -- ---- what holds of 1, of the bearer's rejects and accept, and of the end of a connection holds of each answer of modify and of dedicated activation
-module _ (P : Answer → Type 0) (bearer : ℕ) (malformed : P (Refused NotWellFormed)) (rejects : (cause : Cause) → P (Reject bearer cause)) (accepts : P (Accept bearer))
+module _ (P : Answer → Type 0) (bearer : ℕ) (malformed : P (Refused NotWellFormed)) (rejects : (cause : Cause) (place : Place) → P (Reject bearer cause place)) (accepts : P (Accept bearer))
     (ends : (a : Answer) → EndsConnection a → P a) where
   abbrev Gives : Outcome → Type 0
   Gives o = P (o .reply .answer)
@@ -49,14 +50,14 @@ module _ (P : Answer → Type 0) (bearer : ℕ) (malformed : P (Refused NotWellF
 
   modified : (a : ReadAnswer) (t : Table) (e : Element) → Gives (modifiedBy a t bearer e)
   unfolding deletedFilters deletedTft
-  modified (readRefused refusal) t e = rejects (causeOf (refusal .cause))
+  modified (readRefused refusal) t e = rejects (causeOf (refusal .cause)) _
   modified (Filters operation) t e = laid t (e .filters) (creates operation)
-  modified Identifiers t e = picked Gives (isDedicated (roleOf t bearer) && empties t (indexOf bearer) (e .marks)) _ _ (rejects TftSemantics) accepts
+  modified Identifiers t e = picked Gives (isDedicated (roleOf t bearer) && empties t (indexOf bearer) (e .marks)) _ _ (rejects TftSemantics _) accepts
   modified (Bare DeleteTft) t e = accepts
   modified (Bare NoOperation) t e = accepts
 
   activated : (v : Verdict) (t : Table) (link : ℕ) (new : List Filter) → Gives (activatedBy v t bearer link new)
-  activated (refusedFor refusal) t link new = rejects (causeOf (refusal .cause))
+  activated (refusedFor refusal) t link new = rejects (causeOf (refusal .cause)) _
   activated accepted t link new = laid (build (openedView t (indexOf bearer) (Dedicated link))) new true
 
   module _ (t : Table) (x : ℕ) where
@@ -65,22 +66,22 @@ module _ (P : Answer → Type 0) (bearer : ℕ) (malformed : P (Refused NotWellF
     modify-answers value =
         let s = closed t x in
         picked Gives (wellFormed t) _ _
-        (picked Gives (mismatch t x) _ _ (rejects Transaction)
-        (picked Gives (isIdle (roleOf s bearer)) _ _ (rejects BearerIdentity)
+        (picked Gives (mismatch t x) _ _ (rejects Transaction _)
+        (picked Gives (isIdle (roleOf s bearer)) _ _ (rejects BearerIdentity _)
         (picked Gives (headFine value) _ _
-        (picked Gives (isDedicated (roleOf s bearer) && eqb (operationOf value) deleteTft) _ _ (rejects TftSemantics)
-        (modified (readElement value .answer) s (readElement value))) (rejects TftSyntax)))) malformed
+        (picked Gives (isDedicated (roleOf s bearer) && eqb (operationOf value) deleteTft) _ _ (rejects TftSemantics _)
+        (modified (readElement value .answer) s (readElement value))) (rejects TftSyntax _)))) malformed
 
     pub activate-answers : (link : ℕ) (value : List ℕ) → Gives (activateDedicatedOf t bearer link x value)
     unfolding activateDedicatedOf activateNamed activateRead
     activate-answers link value =
         let s = closed t x in
         picked Gives (wellFormed t) _ _
-        (picked Gives (mismatch t x) _ _ (rejects Transaction)
+        (picked Gives (mismatch t x) _ _ (rejects Transaction _)
         (picked Gives (available s bearer && isDefault (roleOf s link)) _ _
         (picked Gives (headFine value) _ _
-        (picked Gives (eqb (operationOf value) create) _ _ (activated (verdictOn (readElement value .answer)) s link (readElement value .filters)) (rejects TftSemantics))
-        (rejects TftSyntax)) (rejects BearerIdentity))) malformed
+        (picked Gives (eqb (operationOf value) create) _ _ (activated (verdictOn (readElement value .answer)) s link (readElement value .filters)) (rejects TftSemantics _))
+        (rejects TftSyntax _)) (rejects BearerIdentity _))) malformed
 
     pub accept-answers : Gives (acceptOf t bearer x)
     accept-answers = rw (← (no-operation t bearer x)) (modify-answers (0xC0 ∷ []))
@@ -103,7 +104,7 @@ Answers bearer a = SendsReply a → bearerOf a ≡ bearer
 
 pub end-silent : (bearer : ℕ) (a : Answer) → EndsConnection a → Answers bearer a
 end-silent bearer (Accept x) e s = absurd e
-end-silent bearer (Reject x cause) e s = absurd e
+end-silent bearer (Reject x cause place) e s = absurd e
 end-silent bearer (Release default) e s = absurd s
 end-silent bearer Reattach e s = absurd s
 end-silent bearer (Started transaction) e s = absurd s
@@ -113,13 +114,13 @@ end-silent bearer (Refused refusal) e s = absurd s
 
 module _ (t : Table) (bearer x : ℕ) where
   pub modify-bearer : (value : List ℕ) → Answers bearer (modifyOf t bearer x value .reply .answer)
-  modify-bearer = modify-answers (Answers bearer) bearer (λ s. absurd s) (λ cause s. refl) (λ s. refl) (end-silent bearer) t x
+  modify-bearer = modify-answers (Answers bearer) bearer (λ s. absurd s) (λ cause place s. refl) (λ s. refl) (end-silent bearer) t x
 
   pub activate-bearer : (link : ℕ) (value : List ℕ) → Answers bearer (activateDedicatedOf t bearer link x value .reply .answer)
-  activate-bearer = activate-answers (Answers bearer) bearer (λ s. absurd s) (λ cause s. refl) (λ s. refl) (end-silent bearer) t x
+  activate-bearer = activate-answers (Answers bearer) bearer (λ s. absurd s) (λ cause place s. refl) (λ s. refl) (end-silent bearer) t x
 
   pub accept-bearer : Answers bearer (acceptOf t bearer x .reply .answer)
-  accept-bearer = accept-answers (Answers bearer) bearer (λ s. absurd s) (λ cause s. refl) (λ s. refl) (end-silent bearer) t x
+  accept-bearer = accept-answers (Answers bearer) bearer (λ s. absurd s) (λ cause place s. refl) (λ s. refl) (end-silent bearer) t x
 
   pub deactivate-bearer : Answers bearer (deactivateOf t bearer x .reply .answer)
   deactivate-bearer = deactivate-answers (Answers bearer) t bearer x (λ s. absurd s) (λ s. refl)

@@ -7,24 +7,29 @@ use Prim.Native.Nat.{ℕ}
 use lib.ListN.{getD, replicate}
 use Rattle.laws.specs.Index.{allBelow, anyBelow, tab, joined, pad}
 use Rattle.laws.specs.Lists.{isIn, repeats}
-use Rattle.filter.specs.Build.{emptyFilter}
+use Rattle.laws.specs.Octets.{beFrom}
+use Rattle.filter.specs.Build.{excluded, added, emptyFilter}
 use Rattle.filter.specs.Coding.{held, emptyPlace}
 use Rattle.element.specs.Head.{headFine}
-use Rattle.element.specs.Framing.{restFits, framedBy, framedOf}
-use Rattle.element.specs.Read.{readValue, readElement}
+use Rattle.element.specs.Framing.{splitOf, restFits, framedBy, framedOf}
+use Rattle.element.specs.Contents.{lengthOf, componentOf, contentsFrom, contentsOf, codedOf}
+use Rattle.element.specs.Places.{unframedPlace, earliest, filtersPlace, placeOf}
+use Rattle.element.specs.Read.{entriesOf, readValue, unplaced, readElement}
 use Rattle.table.specs.declared.bearer.Role.{Role}
 use Rattle.table.specs.declared.bearer.Role.the-variants.{Idle, Default, Dedicated}
 use Rattle.table.specs.declared.bearer.Table.{Table}
 use Rattle.table.specs.Bearers.{build}
 use Rattle.table.specs.WellFormed.{filterFine, bearerFine, transactionsApart, transactionFrom, distinctTransactions, rowPrecedences, connectionPrecedences, distinctAt, distinctPrecedences, wellFormed}
-use Rattle.calls.specs.declared.reply.Cause.the-variants.{TftSyntax, BearerIdentity, Transaction}
+use Rattle.calls.specs.declared.reply.Cause.{Cause}
+use Rattle.calls.specs.declared.reply.Cause.the-variants.{TftSyntax, BearerIdentity, FilterSyntax, Transaction}
+use Rattle.calls.specs.declared.reply.Place.the-variants.{At as placeAt}
 use Rattle.calls.specs.declared.reply.Refusal.the-variants.{NotWellFormed, NotOpen, UnknownMessage, MessageFraming}
-use Rattle.calls.specs.declared.reply.Answer.the-variants.{Accept, Release, Refused}
+use Rattle.calls.specs.declared.reply.Answer.the-variants.{Accept, Reject, Release, Refused}
 use Rattle.calls.specs.declared.reply.Outcome.{Outcome}
 use Rattle.calls.specs.Reply.{answered, rejectedWith}
 use Rattle.calls.specs.Steps.{opensAt, isOpen, closed, isAt, dropped}
 use Rattle.calls.specs.Modify.{modifyRead, modifyNamed, modifyOf}
-use Rattle.calls.specs.Others.{activateNamed, activateDedicatedOf, deactivateOf, rejectOf}
+use Rattle.calls.specs.Others.{activateRead, activateNamed, activateDedicatedOf, deactivateOf, rejectOf}
 use Rattle.messages.specs.declared.layout.Kind.{Kind}
 use Rattle.messages.specs.declared.layout.Kind.the-variants.{DedicatedRequest, DedicatedAccept, DedicatedReject, ModifyRequest, ModifyAccept}
 use Rattle.messages.specs.declared.layout.Kind.the-variants.{ModifyReject, DeactivateRequest, DeactivateAccept, ModificationReject}
@@ -73,6 +78,10 @@ two = with (Default ∷ Dedicated 5 ∷ [])
 -- not well formed: a dedicated bearer without its default
 abbrev lone : Table
 lone = with (Dedicated 6 ∷ [])
+
+-- rejected, at this place in the value of the TFT
+abbrev rejectedAt : ℕ → Cause → ℕ → Outcome
+rejectedAt bearer cause place = answered two (Reject bearer cause (placeAt place))
 
 -- the call's outcome, and the octets that are sent
 abbrev Handles : Table → List ℕ → Outcome → List ℕ → Type 0
@@ -160,13 +169,19 @@ Examples =
     × leftFor (writeOf (fields ModifyRequest (those (replicate 256 0))) buffer) Unreadable
     -- what is sent, octet for octet: an accepted activation, a reject of one, and nothing
     × (answerTo (fields (DedicatedRequest 5) (those [])) (answered two (Accept 6)) ≡ record { count = 3; octets = 0x62 ∷ 0x00 ∷ 0xC6 ∷ 0x00 ∷ [] })
-    × (answerTo (fields (DedicatedRequest 5) (those [])) (rejectedWith two 6 TftSyntax) ≡ record { count = 4; octets = 0x62 ∷ 0x00 ∷ 0xC7 ∷ 0x2A ∷ [] })
+    × (answerTo (fields (DedicatedRequest 5) (those [])) (rejectedAt 6 TftSyntax 0) ≡ record { count = 4; octets = 0x62 ∷ 0x00 ∷ 0xC7 ∷ 0x2A ∷ [] })
     × (answerTo (fields ModifyRequest none) (answered two (Release 5)) ≡ record { count = 0; octets = 0x00 ∷ 0x00 ∷ 0x00 ∷ 0x00 ∷ [] })
     -- "A modify without a TFT is accepted after steps 1 to 3", a TFT of length 0 "gets step 4's 42", and a transaction that is not open 47
     × Handles two (0x62 ∷ 0x00 ∷ 0xC9 ∷ []) (answered two (Accept 6)) (0x62 ∷ 0x00 ∷ 0xCA ∷ [])
-    × Handles two (0x62 ∷ 0x00 ∷ 0xC9 ∷ 0x36 ∷ 0x00 ∷ []) (rejectedWith two 6 TftSyntax) (0x62 ∷ 0x00 ∷ 0xCB ∷ 0x2A ∷ [])
+    × Handles two (0x62 ∷ 0x00 ∷ 0xC9 ∷ 0x36 ∷ 0x00 ∷ []) (rejectedAt 6 TftSyntax 0) (0x62 ∷ 0x00 ∷ 0xCB ∷ 0x2A ∷ [])
     × Handles two (message (0xC9 ∷ [])) (rejectedWith two 6 Transaction) (0x62 ∷ 0x00 ∷ 0xCB ∷ 0x2F ∷ [])
     × Handles two (0x62 ∷ 0x00 ∷ 0xC9 ∷ 0x36 ∷ 0x01 ∷ 0xC0 ∷ []) (answered two (Accept 6)) (0x62 ∷ 0x00 ∷ 0xCA ∷ [])
+    -- document 02, 6/14: "counted in the element's value", here of operation 7 behind a skipped element, and of length 0 in an activation
+    × Handles two (0x62 ∷ 0x00 ∷ 0xC9 ∷ 0x5B ∷ 0x01 ∷ 0x09 ∷ 0x36 ∷ 0x01 ∷ 0xE0 ∷ []) (rejectedAt 6 TftSyntax 0) (0x62 ∷ 0x00 ∷ 0xCB ∷ 0x2A ∷ [])
+    × Handles two (0x72 ∷ 0x00 ∷ 0xC5 ∷ 0x05 ∷ 0x01 ∷ 0x09 ∷ 0x00 ∷ []) (rejectedAt 7 TftSyntax 0) (0x72 ∷ 0x00 ∷ 0xC7 ∷ 0x2A ∷ [])
+    -- .. of an octet left over, which is the eleventh of the message, and of the second filter, which is badly coded
+    × Handles two (0x62 ∷ 0x00 ∷ 0xC9 ∷ 0x5B ∷ 0x01 ∷ 0x09 ∷ 0x36 ∷ 0x03 ∷ 0xA1 ∷ 0x01 ∷ 0xFF ∷ []) (rejectedAt 6 TftSyntax 2) (0x62 ∷ 0x00 ∷ 0xCB ∷ 0x2A ∷ [])
+    × Handles two (0x72 ∷ 0x00 ∷ 0xC5 ∷ 0x05 ∷ 0x01 ∷ 0x09 ∷ 0x09 ∷ 0x22 ∷ 0x31 ∷ 0x0A ∷ 0x02 ∷ 0x30 ∷ 0x11 ∷ 0x32 ∷ 0x0B ∷ 0x00 ∷ []) (rejectedAt 7 FilterSyntax 6) (0x72 ∷ 0x00 ∷ 0xC7 ∷ 0x2D ∷ [])
     -- a bearer in use is not activated; 6 is deactivated; to a modification reject nothing is sent
     × Handles two (0x62 ∷ 0x00 ∷ 0xC5 ∷ 0x05 ∷ 0x01 ∷ 0x09 ∷ 0x00 ∷ []) (rejectedWith two 6 BearerIdentity) (0x62 ∷ 0x00 ∷ 0xC7 ∷ 0x2B ∷ [])
     × Handles two (message (0xCD ∷ 0x24 ∷ [])) (answered (with (Default ∷ [])) (Accept 6)) (0x62 ∷ 0x00 ∷ 0xCE ∷ [])
@@ -177,5 +192,5 @@ Examples =
     × Handles lone (message []) (answered lone (Refused NotWellFormed)) []
 
 pub examples : Examples
-unfolding allBelow anyBelow tab joined pad isIn repeats held emptyPlace headFine restFits framedBy framedOf readValue readElement filterFine bearerFine transactionsApart transactionFrom distinctTransactions rowPrecedences connectionPrecedences distinctAt distinctPrecedences wellFormed opensAt isOpen closed isAt dropped modifyRead modifyNamed modifyOf activateNamed activateDedicatedOf deactivateOf rejectOf kindOf formIn elements activationStart readOf saidOf writable octetsOf writeOf requestOf acceptOf handleOf
-examples = (refl, refl, refl, refl, refl, refl, refl, refl, refl, refl, refl, refl, refl, refl, refl, refl, refl, refl, refl, refl, refl, refl, refl, refl, refl, refl, refl, refl, refl, refl, refl, refl, refl, refl, refl, refl, refl, refl, refl, refl, refl, refl, refl, refl, refl, refl, refl, refl, refl, refl, refl, refl, refl, refl, refl, refl, refl, refl, refl, refl, refl, refl, refl, refl, refl, refl, refl, refl, refl, refl, refl, refl, refl, refl)
+unfolding allBelow anyBelow tab joined pad isIn repeats held emptyPlace beFrom excluded added headFine splitOf restFits framedBy framedOf lengthOf componentOf contentsFrom contentsOf codedOf unframedPlace earliest filtersPlace placeOf entriesOf readValue unplaced readElement filterFine bearerFine transactionsApart transactionFrom distinctTransactions rowPrecedences connectionPrecedences distinctAt distinctPrecedences wellFormed opensAt isOpen closed isAt dropped modifyRead modifyNamed modifyOf activateRead activateNamed activateDedicatedOf deactivateOf rejectOf kindOf formIn elements activationStart readOf saidOf writable octetsOf writeOf requestOf acceptOf handleOf
+examples = (refl, refl, refl, refl, refl, refl, refl, refl, refl, refl, refl, refl, refl, refl, refl, refl, refl, refl, refl, refl, refl, refl, refl, refl, refl, refl, refl, refl, refl, refl, refl, refl, refl, refl, refl, refl, refl, refl, refl, refl, refl, refl, refl, refl, refl, refl, refl, refl, refl, refl, refl, refl, refl, refl, refl, refl, refl, refl, refl, refl, refl, refl, refl, refl, refl, refl, refl, refl, refl, refl, refl, refl, refl, refl, refl, refl, refl, refl)

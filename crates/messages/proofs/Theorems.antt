@@ -16,19 +16,23 @@ use Rattle.laws.proofs.Says.{which, never, picked, unless-here, unless-later}
 use Rattle.laws.proofs.Parts.{pad-take, pad-long, pad-rests}
 use Rattle.element.specs.Meaning.{Octet}
 use Rattle.table.specs.declared.bearer.Table.{Table}
+use Rattle.table.specs.Bearers.{isIdle, roleOf}
 use Rattle.table.specs.Ranges.{TableInRange}
 use Rattle.table.specs.WellFormed.{wellFormed, WellFormed}
 use Rattle.table.proofs.Meaning.{well-says}
-use Rattle.calls.specs.declared.reply.Refusal.the-variants.{UnknownMessage}
+use Rattle.calls.specs.declared.reply.Refusal.the-variants.{NotWellFormed, NotOpen, UnknownMessage}
 use Rattle.calls.specs.declared.reply.Answer.{Answer}
 use Rattle.calls.specs.declared.reply.Answer.the-variants.{Accept, Reject, Release, Reattach, Started, Closed, Synchronised, Refused as refusesWith}
 use Rattle.calls.specs.declared.reply.Outcome.{Outcome}
 use Rattle.calls.specs.Reply.{causeNumber, numberOf, answered}
-use Rattle.calls.specs.Modify.{malformed, modifyOf}
+use Rattle.calls.specs.Steps.{isOpen, closed}
+use Rattle.calls.specs.Modify.{malformed, mismatch, modifyOf}
 use Rattle.calls.specs.Others.{activateDedicatedOf, deactivateOf, rejectOf}
 use Rattle.calls.specs.Changes.{Gives, SendsReply}
+use Rattle.calls.specs.Checks.{Placed, Unplaced}
 use Rattle.calls.proofs.Answers.{causes, modify-gives, activate-dedicated-gives, deactivate-gives, reject-gives}
 use Rattle.calls.proofs.Checks.{modify-numbers, activate-numbers, deactivate-numbers, reject-numbers}
+use Rattle.calls.proofs.Places.{modify-placed, activate-placed}
 use Rattle.messages.specs.declared.layout.Kind.{Kind}
 use Rattle.messages.specs.declared.layout.Kind.the-variants.{DedicatedRequest, DedicatedAccept, DedicatedReject, ModifyRequest, ModifyAccept}
 use Rattle.messages.specs.declared.layout.Kind.the-variants.{ModifyReject, DeactivateRequest, DeactivateAccept, ModificationReject}
@@ -48,7 +52,7 @@ use Rattle.messages.specs.Read.{readOf, faultNumber, parsedNumber, octet
 use Rattle.messages.specs.Write.{largestIdentity, writable, valueOf, octetsOf}
 use Rattle.messages.specs.Handle.{replyTypes, requestOf, askedBy, acceptOf, modifyBy, refusalOf, refusedOf, callBy, callOf, handledBy, handleOf}
 use Rattle.messages.specs.Handle.{accepting, rejecting, sendingOf, replyFields, sentBy, answerOctets, messageOf}
-use Rattle.messages.specs.Meaning.{types, Ours, ReadNumbered, isZero, ReadsAs, AnswerReads}
+use Rattle.messages.specs.Meaning.{types, Ours, ReadNumbered, isZero, ReadsAs, AnswerReads, PlacedIn}
 use Rattle.messages.proofs.Accepting.{no-operation}
 use Rattle.messages.proofs.Answering.{Answers, reject-silent, modify-bearer, activate-bearer, accept-bearer, deactivate-bearer, deactivate-answers}
 use Rattle.messages.proofs.RoundTrip.{written-reads}
@@ -178,6 +182,49 @@ pub reply-refused : (t : Table) (message : List ℕ) → wellFormed t ≡ true �
     → handleOf t message .outcome ≡ answered t (refusesWith UnknownMessage)
 unfolding handleOf requestOf
 reply-refused t message w r = rw (r, w)
+
+-- ---- The place of a reject
+-- an answer that is no reject needs none, with a TFT or without
+placed-in : (tft : Octets) (a : Answer) → ((value : List ℕ) → Placed value a) → Unplaced a → PlacedIn tft a
+placed-in none a p u = u
+placed-in (those value) a p u = p value
+
+module _ (t : Table) where
+  accept-unplaced : (bearer x : ℕ) → Unplaced (acceptOf t bearer x .reply .answer)
+  unfolding acceptOf
+  accept-unplaced bearer x =
+      let P : Outcome → Type 0 = λ o. Unplaced (o .reply .answer) in
+      picked P (wellFormed t) _ _ (picked P (mismatch t x) _ _ refl (picked P (isIdle (roleOf (closed t x) bearer)) _ _ refl tt)) tt
+
+  reject-placed : (tft : Octets) (x why : ℕ) → PlacedIn tft (rejectOf t x why .reply .answer)
+  unfolding rejectOf
+  reject-placed tft x why =
+      let P : Outcome → Type 0 = λ o. PlacedIn tft (o .reply .answer) in
+      picked P (wellFormed t) _ _
+      (picked P (isOpen t x) _ _ (placed-in tft (Closed x) (λ value. tt) tt) (placed-in tft (refusesWith NotOpen) (λ value. tt) tt))
+      (placed-in tft (refusesWith NotWellFormed) (λ value. tt) tt)
+
+  call-placed : (kind : Kind) (tft : Octets) (bearer x : ℕ) → isIn (typeOf kind) replyTypes ≡ false
+      → ((link : ℕ) → kind ≡ DedicatedRequest link → (value : List ℕ) × (tft ≡ those value)) → PlacedIn tft (callBy kind tft t bearer x .reply .answer)
+  unfolding isIn
+  call-placed (DedicatedRequest link) tft bearer x r has = let h = has link refl in rw (h .1) (activate-placed t bearer link x (h .0))
+  call-placed DedicatedAccept tft bearer x r has = absurd (true≢false r)
+  call-placed (DedicatedReject why) tft bearer x r has = absurd (true≢false r)
+  call-placed ModifyRequest none bearer x r has = accept-unplaced bearer x
+  call-placed ModifyRequest (those value) bearer x r has = modify-placed t bearer x value
+  call-placed ModifyAccept tft bearer x r has = absurd (true≢false r)
+  call-placed (ModifyReject why) tft bearer x r has = absurd (true≢false r)
+  call-placed (DeactivateRequest why) tft bearer x r has =
+      deactivate-answers (PlacedIn tft) t bearer x (placed-in tft (refusesWith NotWellFormed) (λ value. tt) tt) (placed-in tft (Accept bearer) (λ value. tt) tt)
+  call-placed DeactivateAccept tft bearer x r has = absurd (true≢false r)
+  call-placed (ModificationReject why) tft bearer x r has = reject-placed tft x why
+
+  pub message-placed : (message : List ℕ) (f : Fields) → askedBy message ≡ says f → PlacedIn (f .tft) (handleOf t message .outcome .reply .answer)
+  unfolding handleOf
+  message-placed message f asked =
+      rw asked
+      (call-placed (f .kind) (f .tft) (f .bearer) (f .transaction) (asked-request message f asked)
+      (λ link. activation-has-tft message f link (asked-said message f asked)))
 
 -- ---- The numbers of handling
 -- ours, and no reply
@@ -331,7 +378,7 @@ module _ (bearer : ℕ) (small : bearer ≤ largestIdentity) where
   answer-by : (kind : Kind) (a : Answer) → Answers bearer a → AnswerReads kind a (messageOf (sentBy (sendingOf kind a) bearer))
   unfolding pad
   answer-by kind (Accept b) h = reads-as (accepting kind) b (h tt) (accepting-sendable kind)
-  answer-by kind (Reject b cause) h = reads-as (rejecting kind (causeNumber cause)) b (h tt) (rejecting-sendable kind (causeNumber cause))
+  answer-by kind (Reject b cause place) h = reads-as (rejecting kind (causeNumber cause)) b (h tt) (rejecting-sendable kind (causeNumber cause))
   answer-by kind (Release default) h = (refl, refl)
   answer-by kind Reattach h = (refl, refl)
   answer-by kind (Started transaction) h = (refl, refl)
@@ -346,7 +393,7 @@ IsSent kind a = SendsReply a → (reply : Kind) × (sendingOf kind a ≡ Sends r
 -- of a kind that has a message for both
 both-sent : (kind accept : Kind) (reject : ℕ → Kind) → accepting kind ≡ Sends accept → ((number : ℕ) → rejecting kind number ≡ Sends (reject number)) → (a : Answer) → IsSent kind a
 both-sent kind accept reject e r (Accept b) s = (accept, e)
-both-sent kind accept reject e r (Reject b cause) s = (reject (causeNumber cause), r (causeNumber cause))
+both-sent kind accept reject e r (Reject b cause place) s = (reject (causeNumber cause), r (causeNumber cause))
 both-sent kind accept reject e r (Release default) s = absurd s
 both-sent kind accept reject e r Reattach s = absurd s
 both-sent kind accept reject e r (Started transaction) s = absurd s

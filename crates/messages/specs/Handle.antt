@@ -102,7 +102,7 @@ rejecting DeactivateAccept number = Silent
 
 abbrev pub sendingOf : Kind → Answer → Sending
 sendingOf kind (Accept bearer) = accepting kind
-sendingOf kind (Reject bearer cause) = rejecting kind (causeNumber cause)
+sendingOf kind (Reject bearer cause place) = rejecting kind (causeNumber cause)
 sendingOf kind (Release default) = Silent
 sendingOf kind Reattach = Silent
 sendingOf kind (Started transaction) = Silent

@@ -12,6 +12,7 @@ use Rattle.table.specs.declared.bearer.Table.{Table}
 use Rattle.table.specs.WellFormed.{WellFormed}
 use Rattle.calls.specs.declared.reply.Answer.{Answer}
 use Rattle.calls.specs.declared.reply.Answer.the-variants.{Accept, Reject, Release, Reattach, Started, Closed, Synchronised, Refused}
+use Rattle.calls.specs.Checks.{Placed, Unplaced}
 use Rattle.messages.specs.declared.layout.Kind.{Kind}
 use Rattle.messages.specs.declared.layout.Mandatory.{Mandatory}
 use Rattle.messages.specs.declared.layout.Mandatory.the-variants.{Nothing, Cause, Activation}
@@ -95,7 +96,7 @@ ReadsAs (Sends kind) bearer m =
 -- the identity of an accept or a reject
 abbrev pub bearerOf : Answer → ℕ
 bearerOf (Accept bearer) = bearer
-bearerOf (Reject bearer cause) = bearer
+bearerOf (Reject bearer cause place) = bearer
 bearerOf (Release default) = 0
 bearerOf Reattach = 0
 bearerOf (Started transaction) = 0
@@ -105,6 +106,12 @@ bearerOf (Refused refusal) = 0
 
 abbrev pub AnswerReads : Kind → Answer → AnswerMessage → Type 0
 AnswerReads kind a m = ReadsAs (sendingOf kind a) (bearerOf a) m
+
+-- ---- Document 02, 6/14: "counted in the element's value": the theorem `message-placed`
+-- a reject's place is the reader's for the TFT's octets; a message without a TFT has none
+abbrev pub PlacedIn : Octets → Answer → Type 0
+PlacedIn none a = Unplaced a
+PlacedIn (those value) a = Placed value a
 
 -- ---- The octets of a message, part after part, with no word of how they are walked: the theorem `reads-exactly`
 -- what stands between the type and the optional elements, by the octet that it carries and the TFT that it holds

@@ -187,7 +187,7 @@ fn sending_of(kind: Kind, answer: Answer) -> Sending
 {
     match answer {
         Answer::Accept(_) => accepting(kind),
-        Answer::Reject(_, _) => rejecting(kind, number(answer)),
+        Answer::Reject(_, _, _) => rejecting(kind, number(answer)),
         Answer::Release(_) => Sending::Silent,
         Answer::Reattach => Sending::Silent,
         Answer::Started(_) => Sending::Silent,
