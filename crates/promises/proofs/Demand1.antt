@@ -147,12 +147,12 @@ written-numbers (refusedTo NoRoom) = refl
 pub reply-numbers : (a : CallAnswer) → isIn (callNumber a) replyNumbers ≡ true
 unfolding isIn
 reply-numbers (Accept bearer) = refl
-reply-numbers (Reject bearer TftSemantics) = refl
-reply-numbers (Reject bearer TftSyntax) = refl
-reply-numbers (Reject bearer BearerIdentity) = refl
-reply-numbers (Reject bearer FilterSemantics) = refl
-reply-numbers (Reject bearer FilterSyntax) = refl
-reply-numbers (Reject bearer Transaction) = refl
+reply-numbers (Reject bearer TftSemantics place) = refl
+reply-numbers (Reject bearer TftSyntax place) = refl
+reply-numbers (Reject bearer BearerIdentity place) = refl
+reply-numbers (Reject bearer FilterSemantics place) = refl
+reply-numbers (Reject bearer FilterSyntax place) = refl
+reply-numbers (Reject bearer Transaction place) = refl
 reply-numbers (Release default) = refl
 reply-numbers Reattach = refl
 reply-numbers (Started transaction) = refl

@@ -21,23 +21,27 @@ use Rattle.filter.specs.Before.{tcp, sctp, tcpOrUdp, fitsBefore, SomePacketFitt
 use Rattle.filter.proofs.Theorems.{fittable-says}
 use Rattle.filter.proofs.Rules.{fits-same}
 use Rattle.filter.proofs.Sctp.{sctp-named, sctp-alike, other-packets, fits-still, other-filters, portless-packets, port-before, sctp-too, named-held, still-fitted, sctp-unfitted, fitted-now}
+use Rattle.element.specs.declared.answer.Refusal.{Refusal as ReadRefusal}
+use Rattle.element.specs.declared.answer.Answer.the-variants.{Refused as ReadRefused}
 use Rattle.element.specs.declared.answer.Element.{Element}
 use Rattle.element.specs.declared.write.Written.the-variants.{Wrote}
 use Rattle.element.specs.Head.{longest}
 use Rattle.element.specs.declared.portions.Portions.{Portions}
 use Rattle.element.specs.declared.portions.PortionsAnswer.the-variants.{Taken}
 use Rattle.element.specs.declared.portions.FinishAnswer.the-variants.{Read}
-use Rattle.element.specs.Numbers.{numberOf as readNumber, writtenNumber, finishNumber}
+use Rattle.element.specs.Numbers.{numberOf as readNumber, placedNumber, writtenNumber, finishNumber}
 use Rattle.element.specs.Framing.{framedOf}
+use Rattle.element.specs.Places.{placeOf}
 use Rattle.element.specs.Read.{readElement}
 use Rattle.element.specs.Write.{octetsOf, writeOf}
-use Rattle.element.specs.Meaning.{Octet, ElementInRange, ReadsAs, TooLongOrUnframed, SomeFilterBadlyCoded, SomeFilterUnfit, SomethingTwice}
+use Rattle.element.specs.Meaning.{Octet, ElementInRange, ReadsAs, TooLongOrUnframed, SomeFilterBadlyCoded, SomeFilterUnfit, SomethingTwice, PlaceSays, TakenApart}
 use Rattle.element.specs.Order.{InOrder}
 use Rattle.element.specs.Portions.{holding, fedOf, sound, leaving, announceOf, feedOf, finished, finishOf, PortionsInRange}
 use Rattle.element.specs.Portions.{PortionCall, feed, stateAfter, Reached, Feeds, AnnounceGives, FeedGives, FinishGives}
 use Rattle.element.proofs.Divided.{divided-reads, divided-between, divided-fed, state-so-far, portion-taken, announced-nothing, sound-says, one-portion}
 use Rattle.element.proofs.Divided.{announce-gives, feed-gives, finish-gives}
-use Rattle.element.proofs.Theorems.{reader-42, reader-44, reader-45, writer-10, writer-11, writer-9, written-reads, writer-order}
+use Rattle.element.proofs.Examples.{Places, places}
+use Rattle.element.proofs.Theorems.{reader-42, reader-44, reader-45, place-says, refusal-placed, refusal-apart, writer-10, writer-11, writer-9, written-reads, writer-order}
 use Rattle.table.specs.declared.bearer.Table.{Table}
 use Rattle.table.specs.Ranges.{TableInRange}
 use Rattle.table.specs.Bearers.{bearerCount, filterAt, view, isDefault, roleOf}
@@ -48,12 +52,13 @@ use Rattle.calls.specs.declared.reply.Answer.the-variants.{Accept}
 use Rattle.calls.specs.Changes.{FollowUpList, Releases, NamedBearer, SendsReply}
 use Rattle.calls.specs.Reply.{numberOf}
 use Rattle.calls.proofs.Checks.{modify-numbers, activate-numbers, activate-default-numbers, deactivate-numbers, reject-numbers, start-numbers}
+use Rattle.calls.proofs.Places.{modify-placed, activate-placed, default-placed}
 use Rattle.calls.proofs.Release.{modify-releases, activate-releases, modify-follow, activate-follow}
 use Rattle.calls.proofs.Named.{modify-named-bearer, activate-named-bearer}
 use Rattle.calls.specs.declared.reply.Refusal.the-variants.{UnknownMessage}
 use Rattle.calls.specs.declared.reply.Answer.the-variants.{Synchronised, Refused}
 use Rattle.calls.specs.Reply.{answered}
-use Rattle.calls.specs.Checks.{Identity, Active}
+use Rattle.calls.specs.Checks.{Identity, Active, Placed, Unplaced}
 use Rattle.status.specs.declared.write.StatusWritten.the-variants.{Wrote as wroteStatus}
 use Rattle.status.specs.Value.{statusOctets, shownActive}
 use Rattle.status.specs.Write.{statusNumber, writeStatusOf, StatusNumbered}
@@ -69,14 +74,14 @@ use Rattle.messages.specs.Layout.{headOctets, typeOf}
 use Rattle.messages.specs.Read.{parsedNumber, readOf, none as noTft, those, Fields, unread, says, saidOf}
 use Rattle.messages.specs.Write.{messageNumber, writeOf as writeMessageOf}
 use Rattle.messages.specs.Handle.{replyTypes, askedBy, acceptOf, sendingOf, handleOf}
-use Rattle.messages.specs.Meaning.{Ours, ReadNumbered, Composed, Skipped, FieldsInRange, WriteNumbered, AnswerReads, ReadsAs as SentAs}
+use Rattle.messages.specs.Meaning.{Ours, ReadNumbered, Composed, Skipped, FieldsInRange, WriteNumbered, AnswerReads, PlacedIn, ReadsAs as SentAs}
 use Rattle.messages.proofs.Accepting.{no-operation}
 use Rattle.messages.proofs.Examples.{Examples as MessageExamples, examples as examplesOfMessages}
 use Rattle.messages.proofs.Exactly.{reads-exactly, framing-exactly, handle-numbers}
 use Rattle.messages.proofs.RoundTrip.{written-back, write-numbers, written-stays}
 use Rattle.messages.proofs.Skipping.{skipped-changes-nothing, skipped-handled, skipped-alike}
 use Rattle.messages.proofs.Theorems.{read-numbers as message-numbers-read, asked-said, said-asked, message-modifies, message-accepts, message-activates, message-deactivates, message-rejects}
-use Rattle.messages.proofs.Theorems.{activation-has-tft, reply-refused, answer-sent, answer-reads, refused-silent}
+use Rattle.messages.proofs.Theorems.{activation-has-tft, message-placed, reply-refused, answer-sent, answer-reads, refused-silent}
 use Rattle.promises.specs.Messages.{Message, modifies, activates, bearerNamed, transactionOf, valueOf, handled, numberGiven, Passes, MessageNumbered, CallNumbered, connectionFor, roleFor}
 use Rattle.promises.specs.Calls.{Call, activateDefault, activateDedicated, modify, deactivate, reject, start, synchronise, handle, outcomeOf}
 use Rattle.route.specs.Routes.{numberOf as routeNumber, routeOf}
@@ -109,6 +114,15 @@ numbers-given t r (handle message) = handle-numbers t r message
 
 pub route-numbers-given : (t : Table) → TableInRange t → (default : ℕ) (h : Header) → RouteNumbered t default h (routeNumber (routeOf t default h))
 route-numbers-given t r default h = route-numbers t default h r
+
+-- document 02, 6/14: "pass the place on, counted in the element's value": a reject with 42, 44 or 45 has the place of the value (`values-placed`), at step 4 too;
+-- one with 41, 43 or 47 has none, and nor has any of a default activation, which brings no element
+pub places-passed-on : (t : Table) (m : Message) → Placed (valueOf m) (handled m t .reply .answer)
+places-passed-on t (modifies bearer transaction value) = modify-placed t bearer transaction value
+places-passed-on t (activates bearer link transaction value) = activate-placed t bearer link transaction value
+
+pub default-without-place : (t : Table) (bearer : ℕ) → Unplaced (outcomeOf t (activateDefault bearer) .reply .answer)
+default-without-place = default-placed
 
 -- "cause 44 exactly when some well-coded filter fits no packet", where no earlier check refuses: the table is well formed, steps 2 to 5 pass, the value is
 -- framed, every filter in it is well coded, and some filter of it fits no packet
@@ -150,6 +164,22 @@ reads-45 = reader-45
 
 pub reads-44 : (value : List ℕ) → All Octet value → (readNumber (readElement value .answer) ≡ 44) ↔ SomeFilterUnfit value
 reads-44 = reader-44
+
+-- document 02, 6/14: "Every refusal of the element reader should carry a place, the offset from 0": where it is, for whichever reason the value is refused
+pub refusals-placed : (value : List ℕ) → All Octet value → (refusal : ReadRefusal) → readElement value .answer ≡ ReadRefused refusal
+    → PlaceSays value (refusal .place)
+refusals-placed value octets refusal is = refusal-placed value refusal is octets
+
+-- the place of a value, which rejects pass on too (`places-passed-on`), in the same words; and some computed
+pub values-placed : (value : List ℕ) → All Octet value → PlaceSays value (placeOf value)
+values-placed = place-says
+
+pub place-examples : Places
+place-examples = places
+
+-- "the C side": the one number that it is given is 0, or the cause and the place
+pub refusals-apart : (value : List ℕ) → TakenApart (placedNumber (readElement value .answer)) (readElement value .answer)
+refusals-apart = refusal-apart
 
 -- ---- Of the writer
 -- "an operation written and read again is the same"
@@ -399,6 +429,10 @@ module _ (t : Table) (message : List ℕ) (f : Fields) (asked : askedBy message 
 
   pub whole-reject : (why : ℕ) → f .kind ≡ ModificationReject why → handleOf t message .outcome ≡ outcomeOf t (reject (f .transaction) why)
   whole-reject = message-rejects t message f asked
+
+  -- document 02, 6/14: the place is counted in the TFT's value, wherever it stands in the message; without a TFT there is none
+  pub whole-places-passed-on : PlacedIn (f .tft) (handleOf t message .outcome .reply .answer)
+  whole-places-passed-on = message-placed t message f asked
 
   -- the answer's octets read as the accept or the reject that the reply is, with the bearer's identity as received, and 0 for the transaction; none are sent where the
   -- reply is neither

@@ -31,9 +31,10 @@ use Rattle.filter.specs.Fit.{validHeader, agreesNetwork, fits}
 use Rattle.filter.specs.Fittable.{sample, fittable}
 use Rattle.filter.specs.Sizes.{placeCount}
 use Rattle.filter.specs.Before.{fitsBefore}
-use Rattle.element.specs.Contents.{lengthOf, componentOf, contentsFrom, contentsOf}
+use Rattle.element.specs.Contents.{lengthOf, componentOf, contentsFrom, contentsOf, codedOf}
 use Rattle.element.specs.Framing.{splitOf, parameters, restFits, framedBy, framedOf}
-use Rattle.element.specs.Read.{noFilters, noMarks, codedOf, entriesOf as elementEntries, twice, inPlaces, marked, readValue, readElement}
+use Rattle.element.specs.Places.{unframedPlace, earliest, repeatsOne, filtersPlace, placeOf}
+use Rattle.element.specs.Read.{noFilters, noMarks, entriesOf as elementEntries, twice, inPlaces, marked, readValue, unplaced, readElement}
 use Rattle.table.specs.declared.bearer.Role.{Role}
 use Rattle.table.specs.declared.bearer.Role.the-variants.{Idle, Default, Dedicated}
 use Rattle.table.specs.declared.bearer.Table.{Table}
@@ -117,7 +118,7 @@ sip = 0x21 ∷ 0x31 ∷ 0x0A ∷ 0x05 ∷ 0x30 ∷ 0x11 ∷ 0x50 ∷ 0x13 ∷ 0x
 abbrev add : List ℕ
 add = 0x61 ∷ 0x31 ∷ 0x0A ∷ 0x02 ∷ 0x30 ∷ 0x11 ∷ []
 
--- ---- What is shown of an outcome, and that is all of it: the answer in document 01's numbers, the follow-up list, and the table
+-- ---- What is shown of an outcome, and that is all of it but for a reject's place, which is document 02's: the answer in document 01's numbers, the follow-up list, and the table
 pub data Said : Type 0 where
   accepts : (bearer : ℕ) → Said
   rejects : (bearer cause : ℕ) → Said
@@ -130,7 +131,7 @@ pub data Said : Type 0 where
 
 abbrev said : Answer → Said
 said (Accept bearer) = accepts bearer
-said (Reject bearer cause) = rejects bearer (causeNumber cause)
+said (Reject bearer cause place) = rejects bearer (causeNumber cause)
 said (Release default) = releases default
 said Reattach = reattaches
 said (Started transaction) = starts transaction
@@ -295,7 +296,7 @@ SctpRoutes =
 
 -- ---- All are computed, by opening the definitions that they are said in
 computed : Samples × Sequence × SctpRoutes
-unfolding allBelow anyBelow picks tab pad every isIn repeats sameUnder beFrom excluded added held wellCoded emptyPlace validHeader agreesNetwork fits sample fittable lengthOf componentOf contentsFrom contentsOf splitOf parameters restFits framedBy framedOf noFilters noMarks codedOf elementEntries twice inPlaces marked readValue readElement filterFine bearerFine transactionsApart transactionFrom distinctTransactions joined rowPrecedences connectionPrecedences distinctAt distinctPrecedences wellFormed opensAt isOpen closed ofConnection deletedIn holdsIn staysIn empties old takenBy takes conflict placed conflictIn loses placedIn losesAt conflictOnDefault follows released followers otherAt onlyConnection layWithin layOf headFine deletedFilters deletedTft modifyRead modifyNamed modifyOf dropped isAt ownerOf run replies emptyTable activateDefaultOf activateRead activateNamed activateDedicatedOf deactivateOf rejectOf startOf lastBelow uplink placeHas bearerHas entryIn entryAt entriesOf filterOf entryFits firstFit uplinkAt hasUplink otherwiseOf routeOn routeOf shownActive goneBy synchroniseOf kindOf formIn elements activationStart readOf requestOf acceptOf handleOf
+unfolding allBelow anyBelow picks tab pad every isIn repeats sameUnder beFrom excluded added held wellCoded emptyPlace validHeader agreesNetwork fits sample fittable lengthOf componentOf contentsFrom contentsOf splitOf parameters restFits framedBy framedOf noFilters noMarks codedOf elementEntries twice inPlaces marked readValue unframedPlace earliest repeatsOne filtersPlace placeOf unplaced readElement filterFine bearerFine transactionsApart transactionFrom distinctTransactions joined rowPrecedences connectionPrecedences distinctAt distinctPrecedences wellFormed opensAt isOpen closed ofConnection deletedIn holdsIn staysIn empties old takenBy takes conflict placed conflictIn loses placedIn losesAt conflictOnDefault follows released followers otherAt onlyConnection layWithin layOf headFine deletedFilters deletedTft modifyRead modifyNamed modifyOf dropped isAt ownerOf run replies emptyTable activateDefaultOf activateRead activateNamed activateDedicatedOf deactivateOf rejectOf startOf lastBelow uplink placeHas bearerHas entryIn entryAt entriesOf filterOf entryFits firstFit uplinkAt hasUplink otherwiseOf routeOn routeOf shownActive goneBy synchroniseOf kindOf formIn elements activationStart readOf requestOf acceptOf handleOf
 computed = (refl, (refl, refl, refl, refl, refl), (refl, refl, refl, refl))
 
 pub samples : Samples
