@@ -1,6 +1,6 @@
 //! The calls that change the table.
 
-use crate::element::{self, Cause, Kind, Operation};
+use crate::element::{self, Cause, Kind, Operation, Refusal};
 use crate::filter::{row_is_empty, Filter, Octets256, Row};
 use crate::table::{in_connection, Bearer, Role, Table, LARGEST_TRANSACTION};
 
@@ -22,15 +22,39 @@ pub type Identities = u16;
 pub enum Answer {
     Refused(u8),
     Accept { bearer: u8, follow_up: Identities },
-    Reject { bearer: u8, cause: Cause },
+    Reject { bearer: u8, why: Rejection },
     Release { default: u8 },
     Reattach,
     Started(u8),
     Closed(u8),
 }
 
+/// A cause, and the place in the element's value where the element is what was refused.
+#[derive(Clone, Copy, PartialEq, Eq, Debug)]
+pub struct Rejection {
+    pub cause: Cause,
+    pub place: Option<usize>,
+}
+
+impl Rejection {
+    /// For what the table says against the call, or the operation against the bearer.
+    pub fn without_place(cause: Cause) -> Rejection {
+        Rejection { cause, place: None }
+    }
+}
+
+impl From<Refusal> for Rejection {
+    fn from(refusal: Refusal) -> Rejection {
+        Rejection { cause: refusal.cause(), place: Some(refusal.place) }
+    }
+}
+
 fn accept(bearer: u8) -> Answer {
     Answer::Accept { bearer, follow_up: 0 }
+}
+
+fn reject_without_place(bearer: u8, cause: Cause) -> Answer {
+    Answer::Reject { bearer, why: Rejection::without_place(cause) }
 }
 
 pub fn activate_default(table: &mut Table, bearer: u8) -> Answer {
@@ -38,7 +62,7 @@ pub fn activate_default(table: &mut Table, bearer: u8) -> Answer {
         return Answer::Refused(NOT_WELL_FORMED);
     }
     if !table.is_free(bearer) {
-        return Answer::Reject { bearer, cause: INVALID_IDENTITY };
+        return reject_without_place(bearer, INVALID_IDENTITY);
     }
     table.bearer_mut(bearer).unwrap().role = Role::Default;
     accept(bearer)
@@ -64,7 +88,7 @@ pub fn modify(table: &mut Table, bearer: u8, transaction: u8, octets: &[u8]) -> 
 /// "A modify without a TFT is accepted after steps 1 to 3 and changes nothing but a closed transaction."
 pub fn modify_without_tft(table: &mut Table, bearer: u8, transaction: u8) -> Answer {
     answered(table, bearer, transaction, |table| {
-        table.is_active(bearer).then_some(accept(bearer)).ok_or(INVALID_IDENTITY)
+        table.is_active(bearer).then_some(accept(bearer)).ok_or(Rejection::without_place(INVALID_IDENTITY))
     })
 }
 
@@ -73,43 +97,43 @@ fn answered(
     table: &mut Table,
     bearer: u8,
     transaction: u8,
-    follow: impl FnOnce(&mut Table) -> Result<Answer, Cause>,
+    follow: impl FnOnce(&mut Table) -> Result<Answer, Rejection>,
 ) -> Answer {
     if !table.is_well_formed() {
         return Answer::Refused(NOT_WELL_FORMED);
     }
     if transaction != 0 && table.bearer_of_transaction(transaction).is_none() {
-        return Answer::Reject { bearer, cause: TRANSACTION_MISMATCH };
+        return reject_without_place(bearer, TRANSACTION_MISMATCH);
     }
     table.close(transaction);
-    follow(table).unwrap_or_else(|cause| Answer::Reject { bearer, cause })
+    follow(table).unwrap_or_else(|why| Answer::Reject { bearer, why })
 }
 
 /// Steps 3 to 9 of a dedicated activation.
-fn dedicated_request(table: &Table, bearer: u8, link: u8, octets: &[u8]) -> Result<Operation, Cause> {
+fn dedicated_request(table: &Table, bearer: u8, link: u8, octets: &[u8]) -> Result<Operation, Rejection> {
     if !table.is_free(bearer) || !table.is_active_default(link) {
-        return Err(INVALID_IDENTITY);
+        return Err(Rejection::without_place(INVALID_IDENTITY));
     }
     let head = element::head(octets)?;
     if head.kind != Kind::Create {
-        return Err(SEMANTICAL_IN_OPERATION);
+        return Err(Rejection::without_place(SEMANTICAL_IN_OPERATION));
     }
-    element::body(head, octets)
+    Ok(element::body(head, octets)?)
 }
 
 /// Steps 3 to 10 of a modify message.
-fn modify_request(table: &Table, bearer: u8, role: Role, octets: &[u8]) -> Result<Operation, Cause> {
+fn modify_request(table: &Table, bearer: u8, role: Role, octets: &[u8]) -> Result<Operation, Rejection> {
     if role == Role::Idle {
-        return Err(INVALID_IDENTITY);
+        return Err(Rejection::without_place(INVALID_IDENTITY));
     }
     let head = element::head(octets)?;
     let dedicated = role != Role::Default;
     if head.kind == Kind::DeleteTft && dedicated {
-        return Err(SEMANTICAL_IN_OPERATION);
+        return Err(Rejection::without_place(SEMANTICAL_IN_OPERATION));
     }
     let operation = element::body(head, octets)?;
     if dedicated && empties(&operation, &table.bearer(bearer).unwrap().row) {
-        return Err(SEMANTICAL_IN_OPERATION);
+        return Err(Rejection::without_place(SEMANTICAL_IN_OPERATION));
     }
     Ok(operation)
 }

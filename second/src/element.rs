@@ -12,6 +12,54 @@ pub const SYNTACTICAL_IN_FILTER: u8 = 45;
 
 pub type Cause = u8;
 
+/// What is wrong with an element.
+#[derive(Clone, Copy, PartialEq, Eq, Debug)]
+pub enum Fault {
+    Length,
+    Operation,
+    Count,
+    EntryPastTheEnd,
+    NoParameter,
+    ParameterPastTheEnd,
+    LeftOver,
+    BadlyCoded,
+    Unfit,
+    Repeat,
+}
+
+impl Fault {
+    pub fn cause(self) -> Cause {
+        match self {
+            Fault::Length | Fault::Operation | Fault::Count => SYNTACTICAL_IN_OPERATION,
+            Fault::EntryPastTheEnd | Fault::NoParameter | Fault::ParameterPastTheEnd | Fault::LeftOver => {
+                SYNTACTICAL_IN_OPERATION
+            }
+            Fault::BadlyCoded | Fault::Repeat => SYNTACTICAL_IN_FILTER,
+            Fault::Unfit => SEMANTICAL_IN_FILTER,
+        }
+    }
+
+    fn at(self, place: usize) -> Refusal {
+        Refusal { fault: self, place }
+    }
+}
+
+/// What the reader refuses an element for, and where it broke: the offset from 0 in the element's value.
+#[derive(Clone, Copy, PartialEq, Eq, Debug)]
+pub struct Refusal {
+    pub fault: Fault,
+    pub place: usize,
+}
+
+impl Refusal {
+    pub fn cause(&self) -> Cause {
+        self.fault.cause()
+    }
+}
+
+/// What the reader gives.
+pub type Reading = Result<Operation, Refusal>;
+
 #[derive(Clone, Copy, PartialEq, Eq, Debug)]
 pub enum Kind {
     Create,
@@ -74,18 +122,18 @@ pub struct Head {
 }
 
 /// Step 4.
-pub fn head(octets: &[u8]) -> Result<Head, Cause> {
+pub fn head(octets: &[u8]) -> Result<Head, Refusal> {
     if octets.is_empty() || octets.len() > LONGEST_VALUE {
-        return Err(SYNTACTICAL_IN_OPERATION);
+        return Err(Fault::Length.at(0));
     }
-    let kind = Kind::of_code(octets[0] >> 5).ok_or(SYNTACTICAL_IN_OPERATION)?;
+    let kind = Kind::of_code(octets[0] >> 5).ok_or(Fault::Operation.at(0))?;
     let parameters = octets[0] & 0x10 != 0;
     Ok(Head { kind, parameters, count: usize::from(octets[0] & 0x0F) })
 }
 
 /// Steps 6 to 9, for an element whose octet 1 is `head`.
-pub fn body(head: Head, octets: &[u8]) -> Result<Operation, Cause> {
-    let framed = framed(head, &octets[1..]).ok_or(SYNTACTICAL_IN_OPERATION)?;
+pub fn body(head: Head, octets: &[u8]) -> Reading {
+    let framed = framed(head, octets)?;
     match head.kind {
         Kind::Create | Kind::Add | Kind::Replace => filter_set(head.kind, framed.entries()),
         Kind::DeleteFilters => Ok(identifier_set(framed.entries())),
@@ -93,13 +141,14 @@ pub fn body(head: Head, octets: &[u8]) -> Result<Operation, Cause> {
     }
 }
 
-pub fn read(octets: &[u8]) -> Result<Operation, Cause> {
+pub fn read(octets: &[u8]) -> Reading {
     body(head(octets)?, octets)
 }
 
-/// One entry of the list, as framed: a deletion's has its first octet alone.
+/// One entry of the list, as framed: a deletion's has its first octet alone. Its place is that of its first octet.
 #[derive(Clone, Copy, Default)]
 struct Entry<'a> {
+    place: usize,
     first: u8,
     precedence: u8,
     contents: &'a [u8],
@@ -127,17 +176,24 @@ impl<'a> Framed<'a> {
 }
 
 /// Step 6: the entries, where count and framing are right.
-fn framed(head: Head, after_head: &[u8]) -> Option<Framed<'_>> {
+fn framed(head: Head, octets: &[u8]) -> Result<Framed<'_>, Refusal> {
     if head.kind.is_bare() != (head.count == 0) {
-        return None;
+        return Err(Fault::Count.at(0));
     }
-    let mut rest = after_head;
+    let end = octets.len();
+    let mut rest = &octets[1..];
     let mut framed = Framed { entries: [Entry::default(); LARGEST_COUNT], count: head.count };
     for entry in &mut framed.entries[..head.count] {
-        *entry = next_entry(head.kind, &mut rest)?;
+        let place = end - rest.len();
+        let next = next_entry(head.kind, &mut rest).ok_or(Fault::EntryPastTheEnd.at(end))?;
+        *entry = Entry { place, ..next };
     }
-    let ends_well = if head.parameters { are_parameters(rest) } else { rest.is_empty() };
-    ends_well.then_some(framed)
+    if head.parameters {
+        parameters(rest).map_err(|fault| fault.at(end))?;
+    } else if !rest.is_empty() {
+        return Err(Fault::LeftOver.at(end - rest.len()));
+    }
+    Ok(framed)
 }
 
 fn take<'a>(rest: &mut &'a [u8], octets: usize) -> Option<&'a [u8]> {
@@ -156,16 +212,18 @@ fn next_entry<'a>(kind: Kind, rest: &mut &'a [u8]) -> Option<Entry<'a>> {
     }
     let lead = take(rest, 3)?;
     let contents = take(rest, usize::from(lead[2]))?;
-    Some(Entry { first: lead[0], precedence: lead[1], contents })
+    Some(Entry { first: lead[0], precedence: lead[1], contents, ..Entry::default() })
 }
 
 /// "parameters (identifier, length, contents) fill the rest, at least one"
-fn are_parameters(mut rest: &[u8]) -> bool {
-    let mut framed = !rest.is_empty();
-    while framed && !rest.is_empty() {
-        framed = next_parameter(&mut rest).is_some();
+fn parameters(mut rest: &[u8]) -> Result<(), Fault> {
+    if rest.is_empty() {
+        return Err(Fault::NoParameter);
     }
-    framed
+    while !rest.is_empty() {
+        next_parameter(&mut rest).ok_or(Fault::ParameterPastTheEnd)?;
+    }
+    Ok(())
 }
 
 fn next_parameter(rest: &mut &[u8]) -> Option<()> {
@@ -179,32 +237,32 @@ fn identifier_set(entries: &[Entry]) -> Operation {
     Operation { identifiers, ..Operation::new(Kind::DeleteFilters) }
 }
 
-/// Steps 7, 8 and 9, each over all filters before the next.
-fn filter_set(kind: Kind, entries: &[Entry]) -> Result<Operation, Cause> {
+/// Steps 7, 8 and 9, each over all filters before the next, and the earliest filter that fails one is the place.
+fn filter_set(kind: Kind, entries: &[Entry]) -> Reading {
     let mut filters = [Filter::default(); LARGEST_COUNT];
     for (filter, entry) in filters.iter_mut().zip(entries) {
-        *filter = filter_of(entry).ok_or(SYNTACTICAL_IN_FILTER)?;
+        *filter = filter_of(entry).ok_or(Fault::BadlyCoded.at(entry.place))?;
     }
-    if !filters[..entries.len()].iter().all(Filter::fits_some_packet) {
-        return Err(SEMANTICAL_IN_FILTER);
+    if let Some((_, entry)) = filters.iter().zip(entries).find(|(filter, _)| !filter.fits_some_packet()) {
+        return Err(Fault::Unfit.at(entry.place));
     }
-    placed(kind, entries, &filters).ok_or(SYNTACTICAL_IN_FILTER)
+    placed(kind, entries, &filters)
 }
 
 /// Step 9: the set, where no identifier and no precedence stands twice.
-fn placed(kind: Kind, entries: &[Entry], filters: &[Filter]) -> Option<Operation> {
+fn placed(kind: Kind, entries: &[Entry], filters: &[Filter]) -> Reading {
     let mut operation = Operation::new(kind);
     let mut identifiers = 0u16;
     let mut precedences = Octets256::default();
     for (entry, filter) in entries.iter().zip(filters) {
         let bit = 1 << entry.identifier();
         if identifiers & bit != 0 || !precedences.add(entry.precedence) {
-            return None;
+            return Err(Fault::Repeat.at(entry.place));
         }
         identifiers |= bit;
         operation.row[entry.identifier()] = *filter;
     }
-    Some(operation)
+    Ok(operation)
 }
 
 /// Step 7 for one filter.

@@ -319,7 +319,8 @@ fn form(line: &str) -> String {
         }
         ["announced" | "fed", length] if !matches!(*length, "0" | "255") => words[0].to_string(),
         ["placed" | "wrote", _, _] => words[0].to_string(),
-        ["reject", _, cause] => format!("reject {cause}"),
+        ["cause", cause, "at", _] => format!("cause {cause}"),
+        ["reject", _, cause] | ["reject", _, cause, "at", _] => format!("reject {cause}"),
         ["bearer", _, role, .., "transaction", _] => format!("bearer {role}"),
         ["delete-filters", _, ..] => "delete-filters".to_string(),
         ["filter", _, "precedence", _, "direction", _, components @ ..] => match sctp_ports(components) {

@@ -1,13 +1,13 @@
 //! `second`: the bench language on standard input, replies on standard output.
 //! `second --echo`: the same with echo on from the start.
-//! `second elements`: a line of hexadecimal for each element, the number that the reader gives for each.
+//! `second elements`: a line of hexadecimal for each element, 0 or the reader's cause and place for each.
 
 use std::env::args_os;
 use std::ffi::OsString;
 use std::io::{self, stdin, stdout, BufReader, Write};
 use std::process::ExitCode;
 
-use second::element;
+use second::element::{self, Reading};
 use second::lines::{Line, LONGEST_LINE};
 use second::session::Session;
 use second::text::{self, Text};
@@ -45,9 +45,17 @@ fn bench(echo: bool) -> io::Result<()> {
 
 fn elements() -> io::Result<()> {
     each_line(usize::MAX, |line, out| match octets(&line.octets) {
-        Some(octets) => text::line(out, "", element::read(&octets).err().unwrap_or(0)),
+        Some(octets) => number(&element::read(&octets), out),
         None => text::line(out, "bad line ", line.number),
     })
+}
+
+/// 0, or the cause and the place.
+fn number(read: &Reading, out: &mut Text) {
+    match read {
+        Ok(_) => text::line(out, "", 0u8),
+        Err(refusal) => text::refusal(out, "", refusal),
+    }
 }
 
 fn octets(line: &[u8]) -> Option<Vec<u8>> {

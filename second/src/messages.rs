@@ -364,7 +364,7 @@ fn sent(message: &Message, answer: &Answer) -> Option<Message<'static>> {
     };
     let (kind, bearer, number) = match *answer {
         Answer::Accept { bearer, .. } => (accept, bearer, 0),
-        Answer::Reject { bearer, cause } => (reject, bearer, cause),
+        Answer::Reject { bearer, why } => (reject, bearer, why.cause),
         _ => return None,
     };
     Some(Message { kind, bearer, transaction: 0, number, tft: None })

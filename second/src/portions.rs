@@ -1,6 +1,6 @@
 //! Elements that arrive split: a length is announced, portions are fed, and what was fed is read as one element.
 
-use crate::element::{self, Cause, Operation, LONGEST_VALUE, SYNTACTICAL_IN_OPERATION};
+use crate::element::{self, Cause, Reading, LONGEST_VALUE, SYNTACTICAL_IN_OPERATION};
 
 /// A portion that would pass what was announced, or a state that no calls give.
 pub const NOT_TAKEN: u8 = 13;
@@ -20,9 +20,6 @@ pub enum Unsound {
     MoreFedThanAnnounced,
     OctetPastFed,
 }
-
-/// What the element reader gives.
-pub type Reading = Result<Operation, Cause>;
 
 impl Default for Portions {
     fn default() -> Portions {
@@ -67,7 +64,7 @@ impl Portions {
         }
     }
 
-    /// 42 above 255, and the state is then the one that announcing 0 gives.
+    /// 42 above 255, without a place as there is no value, and the state is then the one that announcing 0 gives.
     pub fn announce(&mut self, length: u16) -> Result<(), Cause> {
         let announced = u8::try_from(length).map_err(|_| SYNTACTICAL_IN_OPERATION);
         *self = Portions::empty(announced.unwrap_or(0));
@@ -116,9 +113,10 @@ mod tests {
     }
 
     #[test]
-    fn nothing_announced_finishes_with_42() {
+    fn nothing_announced_finishes_with_42_at_0() {
         assert_eq!(announced(0), Portions::default());
-        assert_eq!(Portions::default().finish(), Ok(Err(SYNTACTICAL_IN_OPERATION)));
+        let refusal = Portions::default().finish().unwrap().unwrap_err();
+        assert_eq!((refusal.cause(), refusal.place), (SYNTACTICAL_IN_OPERATION, 0));
     }
 
     #[test]

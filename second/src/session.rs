@@ -3,9 +3,9 @@
 use std::hint::black_box;
 
 use crate::calls::{self, Answer, NOT_WELL_FORMED};
-use crate::element::{self, Operation};
+use crate::element::{self, Operation, Reading};
 use crate::messages;
-use crate::portions::{Portions, Reading};
+use crate::portions::Portions;
 use crate::route;
 use crate::script::{asked, Asked, Call, LARGEST_BUFFER};
 use crate::status;
@@ -241,14 +241,14 @@ fn message(table: &mut Table, octets: &[u8], out: &mut Text) {
 fn reading(read: &Reading, out: &mut Text) {
     match read {
         Ok(operation) => text::operation(out, operation),
-        Err(cause) => text::line(out, "cause ", *cause),
+        Err(refusal) => text::refusal(out, "cause ", refusal),
     }
 }
 
 fn rewrite(octets: &[u8], size: usize, out: &mut Text) {
     match element::read(octets) {
         Ok(operation) => written(size, out, |buffer| element::write(&operation, buffer)),
-        Err(cause) => text::line(out, "cause ", cause),
+        Err(refusal) => text::refusal(out, "cause ", &refusal),
     }
 }
 

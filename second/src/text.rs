@@ -1,7 +1,7 @@
 //! How replies are written.
 
-use crate::calls::{Answer, Identities};
-use crate::element::{filters_in, Kind, Operation};
+use crate::calls::{Answer, Identities, Rejection};
+use crate::element::{filters_in, Kind, Operation, Refusal};
 use crate::filter::{Component, Filter, Row};
 use crate::messages::{self, Message};
 use crate::route::Route;
@@ -56,11 +56,7 @@ pub fn answer(text: &mut Text, answer: &Answer) {
     match *answer {
         Answer::Refused(number) => line(text, "refused ", number),
         Answer::Accept { bearer, follow_up } => accept(text, bearer, follow_up),
-        Answer::Reject { bearer, cause } => {
-            words(text, "reject ");
-            number(text, bearer);
-            line(text, " ", cause);
-        }
+        Answer::Reject { bearer, why } => reject(text, bearer, &why),
         Answer::Release { default } => line(text, "release ", default),
         Answer::Reattach => words(text, "re-attach\n"),
         Answer::Started(transaction) => line(text, "started ", transaction),
@@ -76,6 +72,21 @@ fn accept(text: &mut Text, bearer: u8, follow_up: Identities) {
     }
     bearers(text, follow_up);
     words(text, "\n");
+}
+
+fn reject(text: &mut Text, bearer: u8, why: &Rejection) {
+    one(text, "reject ", bearer);
+    one(text, " ", why.cause);
+    if let Some(place) = why.place {
+        one(text, " at ", place as u64);
+    }
+    words(text, "\n");
+}
+
+/// The cause and the place of what the reader refuses, and the end of the line.
+pub fn refusal(text: &mut Text, before: &str, refusal: &Refusal) {
+    one(text, before, refusal.cause());
+    line(text, " at ", refusal.place as u64);
 }
 
 /// The identities of a set, rising, each after a space.

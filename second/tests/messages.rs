@@ -1,6 +1,6 @@
 //! Whole messages: what is written reads back, elements that are skipped change nothing, cuts show, and handling is the call of the fields.
 
-use second::calls::{self, Answer};
+use second::calls::{self, Answer, Rejection};
 use second::generator::{elements, script};
 use second::messages::{handle, read, write, Kind, Message, BADLY_FRAMED, KINDS, NO_SUCH_MESSAGE};
 use second::random::Random;
@@ -368,14 +368,17 @@ fn mandatory(kind: u8) -> &'static [u8] {
     }
 }
 
+fn reject(bearer: u8, cause: u8, place: Option<usize>) -> Answer {
+    Answer::Reject { bearer, why: Rejection { cause, place } }
+}
+
 fn answer_to(kind: u8, bearer: u8) -> Answer {
-    let (accept, reject) =
-        (Answer::Accept { bearer, follow_up: 0 }, |cause| Answer::Reject { bearer, cause });
+    let accept = Answer::Accept { bearer, follow_up: 0 };
     match kind {
-        0xC5 if bearer > 6 => reject(42),
-        0xC5 => reject(43),
+        0xC5 if bearer > 6 => reject(bearer, 42, Some(0)),
+        0xC5 => reject(bearer, 43, None),
         0xC9 if bearer == 5 || bearer == 6 => accept,
-        0xC9 => reject(43),
+        0xC9 => reject(bearer, 43, None),
         0xCD => accept,
         0xD7 => refused(3),
         _ => refused(NO_SUCH_MESSAGE),
@@ -437,7 +440,7 @@ fn by_fields(table: &mut Table, message: &Message) -> (Answer, Option<Vec<u8>>) 
     };
     let sent = match answer {
         Answer::Accept { bearer, .. } => Some(vec![bearer << 4 | 2, 0, accept]),
-        Answer::Reject { bearer, cause } => Some(vec![bearer << 4 | 2, 0, reject, cause]),
+        Answer::Reject { bearer, why } => Some(vec![bearer << 4 | 2, 0, reject, why.cause]),
         _ => None,
     };
     (answer, sent)
@@ -521,8 +524,8 @@ fn a_modify_without_a_tft_changes_nothing_but_a_closed_transaction() {
                 let answer = handle(&mut after, &[bearer << 4 | 2, transaction, 0xC9]).answer;
                 let is_open = transaction == 0 || open.contains(&transaction);
                 let expected = match (is_open, table.is_active(bearer)) {
-                    (false, _) => Answer::Reject { bearer, cause: 47 },
-                    (true, false) => Answer::Reject { bearer, cause: 43 },
+                    (false, _) => reject(bearer, 47, None),
+                    (true, false) => reject(bearer, 43, None),
                     (true, true) => Answer::Accept { bearer, follow_up: 0 },
                 };
                 assert_eq!(answer, expected);
@@ -535,13 +538,13 @@ fn a_modify_without_a_tft_changes_nothing_but_a_closed_transaction() {
 }
 
 #[test]
-fn a_tft_of_no_octets_is_there_and_gets_42() {
+fn a_tft_of_no_octets_is_there_and_gets_42_at_0() {
     let modify = (&[0x62, 0, 0xC9, 0x36, 0][..], Kind::ModifyReject);
     let dedicated = (&[0x72, 0, 0xC5, 5, 1, 9, 0][..], Kind::DedicatedReject);
     for (octets, kind) in [modify, dedicated] {
         let (mut table, bearer) = (small_table(), octets[0] >> 4);
         let handled = handle(&mut table, octets);
-        assert_eq!(handled.answer, Answer::Reject { bearer, cause: 42 });
+        assert_eq!(handled.answer, reject(bearer, 42, Some(0)));
         assert_eq!(handled.sent, Some(Message { kind, bearer, transaction: 0, number: 42, tft: None }));
         assert_eq!(table, small_table());
     }

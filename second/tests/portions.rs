@@ -1,8 +1,8 @@
 //! However an element was divided, it reads as the whole.
 
-use second::element::{self, LONGEST_VALUE};
+use second::element::{self, Reading, LONGEST_VALUE};
 use second::generator::elements;
-use second::portions::{Portions, Reading, FINISHED_EARLY, NOT_TAKEN};
+use second::portions::{Portions, FINISHED_EARLY, NOT_TAKEN};
 use second::random::Random;
 
 fn announced(length: usize) -> Portions {
@@ -39,9 +39,10 @@ fn elements_are_of_every_outcome() {
         elements.iter().filter(|element| wanted(&element::read(element))).count()
     };
     assert!(outcomes(|read| read.is_ok()) > 100);
-    assert!(outcomes(|read| matches!(read, Err(42))) > 10);
-    assert!(outcomes(|read| matches!(read, Err(44))) > 10);
-    assert!(outcomes(|read| matches!(read, Err(45))) > 10);
+    assert!(outcomes(|read| read.is_err_and(|refusal| refusal.cause() == 42)) > 10);
+    assert!(outcomes(|read| read.is_err_and(|refusal| refusal.cause() == 44)) > 10);
+    assert!(outcomes(|read| read.is_err_and(|refusal| refusal.cause() == 45)) > 10);
+    assert!(outcomes(|read| read.is_err_and(|refusal| refusal.place > 1)) > 10);
     assert!(elements.iter().filter(|element| element.len() == LONGEST_VALUE).count() > 5);
 }
 

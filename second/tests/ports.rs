@@ -64,9 +64,10 @@ fn table(filter: Filter) -> Table {
 /// The reader, the writer and the table's test agree on whether a packet fits, and give 44, 10 and 1 where none does.
 fn is_fit_for_some_packet(components: &[Component], expected: bool) {
     let filter = filter(components);
-    let reading = if expected { Ok(composed(filter)) } else { Err(44) };
+    let reading = if expected { Ok(composed(filter)) } else { Err((44, 1)) };
     assert_eq!(filter.fits_some_packet(), expected, "{components:?}");
-    assert_eq!(read(&element(components)), reading, "{components:?}");
+    let read = read(&element(components)).map_err(|refusal| (refusal.cause(), refusal.place));
+    assert_eq!(read, reading, "{components:?}");
     assert_eq!(write(&composed(filter), &mut [0; 255]).err(), (!expected).then_some(10), "{components:?}");
     assert_eq!(table(filter).is_well_formed(), expected, "{components:?}");
 }

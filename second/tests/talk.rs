@@ -153,12 +153,12 @@ fn a_last_line_without_lf_is_echoed_with_one() {
 }
 
 #[test]
-fn elements_are_answered_as_ever() {
+fn elements_are_answered_with_cause_and_place() {
     let mut talk = Talk::new(&["elements"]);
     talk.say("C0\n4");
     talk.hear(&["0"]);
     talk.say("101\n");
-    talk.hear(&["42"]);
+    talk.hear(&["42 at 0"]);
     talk.say("echo on\n");
     talk.hear(&["bad line 3"]);
     talk.end(&[]);

@@ -188,7 +188,8 @@ mod tests {
         }
 
         fn element(&mut self, place: &'static str, octets: &[u8]) {
-            self.see(place, |_, swap| (read(octets) == Err(44)) != (read(&swap.octets(octets)) == Err(44)));
+            let is_unfit = |octets: &[u8]| read(octets).is_err_and(|refusal| refusal.cause() == 44);
+            self.see(place, |_, swap| is_unfit(octets) != is_unfit(&swap.octets(octets)));
         }
     }
 
