@@ -161,6 +161,8 @@ fn elements_are_answered_with_cause_and_place() {
     talk.hear(&["42 at 0"]);
     talk.say("echo on\n");
     talk.hear(&["bad line 3"]);
+    talk.say("21310A0530115013\n-\n\nA10100\n22310A0230063214023106\n21310A054100020001\n21310A023006\n");
+    talk.hear(&["42 at 8", "42 at 0", "42 at 0", "42 at 2", "45 at 6", "44 at 1", "0"]);
     talk.end(&[]);
 }
 
