@@ -1,6 +1,7 @@
 //! The forms that a reply can take, and how often each stands in an output.
 
 mod messages;
+mod places;
 
 use std::iter::{once, repeat};
 
@@ -14,17 +15,15 @@ use crate::session::Session;
 use crate::table::Table;
 use crate::text::Text;
 use messages::About;
+use places::Broken;
 
-/// Every form that the bench language has but for those of messages, numbers and lists left out but for those that are the point of the
-/// reply.
-pub const FORMS: [&str; 131] = [
+/// Every form that the bench language has but for those of messages and those with a place, numbers and lists left out but for those that are
+/// the point of the reply.
+pub const FORMS: [&str; 122] = [
     "accept",
     "accept follow-up",
     "reject 41",
-    "reject 42",
     "reject 43",
-    "reject 44",
-    "reject 45",
     "reject 47",
     "release",
     "re-attach",
@@ -44,9 +43,6 @@ pub const FORMS: [&str; 131] = [
     "refused 9",
     "refused 10",
     "refused 11",
-    "cause 42",
-    "cause 44",
-    "cause 45",
     "create",
     "add",
     "replace",
@@ -116,9 +112,6 @@ pub const FORMS: [&str; 131] = [
     "finish: delete-filters",
     "finish: delete-tft",
     "finish: none",
-    "finish: cause 42",
-    "finish: cause 44",
-    "finish: cause 45",
     "finish: refused 13, more fed than announced",
     "finish: refused 13, an octet past what was fed",
     "finish: refused 14",
@@ -183,13 +176,14 @@ pub struct Reply {
     line: String,
 }
 
-/// What tells replies apart that read the same: what is wrong with the state of portions, what decides the route of an SCTP packet, and what a
-/// message says.
+/// What tells replies apart that read the same: what is wrong with the state of portions, what decides the route of an SCTP packet, what a
+/// message says, and what is wrong with an element.
 #[derive(Clone, PartialEq, Eq, Debug)]
 struct Standing {
     unsound: Option<Unsound>,
     sctp: Option<Decider>,
     about: Option<About>,
+    broken: Option<Broken>,
 }
 
 /// The kind of filter that decides a route.
@@ -203,9 +197,10 @@ enum Decider {
 
 impl Standing {
     fn before(session: &Session, line: &[u8]) -> Standing {
-        let (mut sctp, mut about) = (None, None);
+        let (mut sctp, mut about, mut broken) = (None, None, None);
         if let Asked::Call { times, call } = asked(line) {
             about = About::of(&call, times, &session.table);
+            broken = Broken::of(&call, &session.portions);
             sctp = match call {
                 Call::Route { default, header } if header.protocol == SCTP => {
                     Some(Decider::of(&session.table, default, &header))
@@ -213,7 +208,7 @@ impl Standing {
                 _ => None,
             };
         }
-        Standing { unsound: session.portions.unsound(), sctp, about }
+        Standing { unsound: session.portions.unsound(), sctp, about, broken }
     }
 }
 
@@ -244,7 +239,10 @@ impl Decider {
 
 impl Reply {
     fn form(&self) -> String {
-        let form = form(&self.line);
+        let form = match self.standing.broken {
+            Some(broken) => broken.form(&self.word, &form(&self.line)),
+            None => form(&self.line),
+        };
         if let Some(decider) = self.standing.sctp {
             return sctp_route_form(&form, decider);
         }
@@ -291,11 +289,11 @@ fn word(line: &[u8]) -> String {
 
 /// What is told apart where `fed` stands: each form is counted where HEX does.
 fn outcome(form: &str) -> &str {
-    match form {
-        "create" | "add" | "replace" | "delete-filters" | "delete-tft" | "none" => "read",
-        "cause 42" | "cause 44" | "cause 45" => "cause",
-        "reject 42" | "reject 44" | "reject 45" => "reject for the element",
-        "reject 41" | "reject 43" | "reject 47" => "reject for the table",
+    match (form.split_once(" at "), form) {
+        (Some(("cause 42" | "cause 44" | "cause 45", _)), _) => "cause",
+        (Some(("reject 42" | "reject 44" | "reject 45", _)), _) => "reject for the element",
+        (None, "reject 41" | "reject 43" | "reject 47") => "reject for the table",
+        (None, "create" | "add" | "replace" | "delete-filters" | "delete-tft" | "none") => "read",
         _ => form,
     }
 }
@@ -319,8 +317,7 @@ fn form(line: &str) -> String {
         }
         ["announced" | "fed", length] if !matches!(*length, "0" | "255") => words[0].to_string(),
         ["placed" | "wrote", _, _] => words[0].to_string(),
-        ["cause", cause, "at", _] => format!("cause {cause}"),
-        ["reject", _, cause] | ["reject", _, cause, "at", _] => format!("reject {cause}"),
+        ["reject", _, why @ ..] => format!("reject {}", why.join(" ")),
         ["bearer", _, role, .., "transaction", _] => format!("bearer {role}"),
         ["delete-filters", _, ..] => "delete-filters".to_string(),
         ["filter", _, "precedence", _, "direction", _, components @ ..] => match sctp_ports(components) {
@@ -395,7 +392,7 @@ fn replies_in(output: &[u8], asked: &[u8], standing: Standing) -> Vec<Reply> {
 }
 
 fn all_forms() -> impl Iterator<Item = &'static str> {
-    FORMS.into_iter().chain(messages::FORMS)
+    FORMS.into_iter().chain(places::FORMS).chain(messages::FORMS)
 }
 
 /// How often each form stands in replies, and what is wrong: lines of no form, and forms too rare.
@@ -419,7 +416,7 @@ mod tests {
     #[test]
     fn generated_scripts_show_every_form_often_enough() {
         for seed in [0, 1, 2, 3, 4, 20260401] {
-            let (_, wrong) = count(&played(&script(seed, 22_200)).1);
+            let (_, wrong) = count(&played(&script(seed, 23_600)).1);
             assert!(wrong.is_empty(), "seed {seed}:\n{}", wrong.join("\n"));
         }
     }

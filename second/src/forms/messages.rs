@@ -5,7 +5,8 @@ use crate::script::Call;
 use crate::table::Table;
 use crate::text::message_kind;
 
-pub const FORMS: [&str; 94] = [
+/// Those with a place are told elsewhere, but for a TFT of no octets.
+pub const FORMS: [&str; 88] = [
     "parse: dedicated-request tft",
     "parse: dedicated-request tft -",
     "parse: dedicated-accept",
@@ -29,12 +30,9 @@ pub const FORMS: [&str; 94] = [
     "message dedicated-request tft: accept",
     "message dedicated-request tft: accept follow-up",
     "message dedicated-request tft: reject 41",
-    "message dedicated-request tft: reject 42",
     "message dedicated-request tft: reject 43",
-    "message dedicated-request tft: reject 44",
-    "message dedicated-request tft: reject 45",
     "message dedicated-request tft: reject 47",
-    "message dedicated-request tft -: reject 42",
+    "message dedicated-request tft -: reject 42 at 0",
     "message modify-request: accept",
     "message modify-request: reject 43",
     "message modify-request: reject 47",
@@ -42,12 +40,9 @@ pub const FORMS: [&str; 94] = [
     "message modify-request tft: accept",
     "message modify-request tft: accept follow-up",
     "message modify-request tft: reject 41",
-    "message modify-request tft: reject 42",
     "message modify-request tft: reject 43",
-    "message modify-request tft: reject 44",
-    "message modify-request tft: reject 45",
     "message modify-request tft: reject 47",
-    "message modify-request tft -: reject 42",
+    "message modify-request tft -: reject 42 at 0",
     "message tft: release",
     "message tft: re-attach",
     "message deactivate-request: accept",
@@ -238,7 +233,7 @@ mod tests {
         );
         assert_eq!(after("message 5207C9"), ["message modify-request that closes: accept", "send CA"]);
         assert_eq!(after("repeat 2 message 5207C9"), ["message modify-request: reject 47", "send CB"]);
-        assert_eq!(after("message 5200C93600"), ["message modify-request tft -: reject 42", "send CB"]);
+        assert_eq!(after("message 5200C93600"), ["message modify-request tft -: reject 42 at 0", "send CB"]);
         assert_eq!(
             after("message 0207D76F\nmessage 0207D72B"),
             ["message modification-reject: closed", "message modification-reject: refused 3"]

@@ -40,7 +40,7 @@ fn value(component: &Component) -> Vec<u8> {
     }
 }
 
-fn contents(components: &[Component]) -> Vec<u8> {
+pub fn contents(components: &[Component]) -> Vec<u8> {
     components.iter().flat_map(|c| [vec![c.kind().octet()], value(c)].concat()).collect()
 }
 
@@ -155,7 +155,7 @@ pub fn with_remote6(random: &mut Random) -> Vec<Component> {
 }
 
 /// No contents, an unknown type, a component cut short, a type twice, and types that exclude each other.
-const BADLY_CODED: &[&[u8]] = &[
+pub const BADLY_CODED: &[&[u8]] = &[
     &[],
     &[0x31, 6],
     &[0x30],
@@ -169,11 +169,11 @@ fn entry(identifier: u8, direction: u8, precedence: u8, components: &[Component]
     entry_of(direction << 4 | identifier, precedence, &contents(components))
 }
 
-fn entry_of(first: u8, precedence: u8, contents: &[u8]) -> Vec<u8> {
+pub fn entry_of(first: u8, precedence: u8, contents: &[u8]) -> Vec<u8> {
     [&[first, precedence, contents.len() as u8], contents].concat()
 }
 
-fn code(kind: Kind) -> u8 {
+pub fn code(kind: Kind) -> u8 {
     match kind {
         Kind::Create => 1,
         Kind::DeleteTft => 2,
@@ -226,7 +226,7 @@ impl Generator {
         self.assembled(kind, &entries)
     }
 
-    fn deletions(&mut self, bearer: u8) -> Vec<Vec<u8>> {
+    pub fn deletions(&mut self, bearer: u8) -> Vec<Vec<u8>> {
         let held = self.held(bearer);
         let all = self.random.one_in(4);
         let count = if all { held.len().clamp(1, 15) } else { 1 + self.random.below(3) };
@@ -254,7 +254,7 @@ impl Generator {
     }
 
     /// That many numbers, distinct unless careless.
-    fn numbers(&mut self, count: usize, careless: bool, next: impl Fn(&mut Generator) -> u8) -> Vec<u8> {
+    pub fn numbers(&mut self, count: usize, careless: bool, next: impl Fn(&mut Generator) -> u8) -> Vec<u8> {
         let mut numbers = Vec::new();
         while numbers.len() < count {
             let number = next(self);
@@ -266,7 +266,7 @@ impl Generator {
     }
 
     /// One that the bearer holds, or any.
-    fn identifier_near(&mut self, bearer: u8) -> u8 {
+    pub fn identifier_near(&mut self, bearer: u8) -> u8 {
         let any = self.random.below(16) as u8;
         let held = self.held(bearer);
         if self.random.one_in(3) {
@@ -317,7 +317,7 @@ impl Generator {
         self.assembled(kind, &[entry])
     }
 
-    fn parameters(&mut self) -> Vec<u8> {
+    pub fn parameters(&mut self) -> Vec<u8> {
         let mut octets = Vec::new();
         for _ in 0..1 + self.random.below(3) {
             let length = self.random.pick(&[0, 1, 2, 5]);

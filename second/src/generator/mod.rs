@@ -6,6 +6,7 @@ mod echo;
 mod elements;
 mod headers;
 mod messages;
+mod places;
 mod portions;
 mod ports;
 mod rubbish;
@@ -48,6 +49,7 @@ struct Generator {
     lines: u64,
     repeat: Option<usize>,
     still_to_come: messages::StillToCome,
+    places_to_come: Vec<places::Plan>,
 }
 
 impl Generator {
@@ -60,6 +62,7 @@ impl Generator {
             lines: 0,
             repeat: None,
             still_to_come: messages::StillToCome::default(),
+            places_to_come: Vec::new(),
         }
     }
 
@@ -67,7 +70,7 @@ impl Generator {
         if self.session.echo && self.random.one_in(20) {
             self.echo("off");
         }
-        match self.random.weighted(&[64, 14, 5, 2, 3, 4, 2, 1, 1, 5, 17]) {
+        match self.random.weighted(&[64, 14, 5, 2, 3, 4, 2, 1, 1, 5, 17, 7]) {
             0 => self.table_call(),
             1 => self.element_line(),
             2 => self.compose(),
@@ -78,7 +81,8 @@ impl Generator {
             7 => self.echo_stretch(),
             8 => self.look_or_reset(),
             9 => self.portions(),
-            _ => self.messages(),
+            10 => self.messages(),
+            _ => self.places(),
         }
         if !self.session.table.is_well_formed() {
             self.clear();
