@@ -51,6 +51,13 @@ pub fn put_cause(out: &mut [u8], at: usize, cause: u8) -> usize {
     put_named_line(out, at, b"cause", wide(cause))
 }
 
+// The reader's refusal: 256 times its cause, and its place.
+pub fn put_refusal(out: &mut [u8], at: usize, refusal: u16) -> usize {
+    let o = put_named(out, at, b"cause", (refusal / 256) as u64);
+    let o = put_named(out, o, b" at", (refusal % 256) as u64);
+    put_end(out, o)
+}
+
 // What the answer does not use is empty, and has no text.
 fn put_operation(out: &mut [u8], at: usize, kind: usize, marks: [bool; PLACES]) -> usize {
     let o = put_kind(out, at, kind);
@@ -60,9 +67,9 @@ fn put_operation(out: &mut [u8], at: usize, kind: usize, marks: [bool; PLACES]) 
 
 pub fn put_element(out: &mut [u8], at: usize, e: Element) -> usize {
     let answer = e.answer;
-    let cause = element::answer::number(answer);
-    if cause != 0 {
-        return put_cause(out, at, cause);
+    let refusal = element::answer::placed_number(answer);
+    if refusal != 0 {
+        return put_refusal(out, at, refusal);
     }
     let marks = e.marks;
     let filters = e.filters;

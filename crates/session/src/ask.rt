@@ -19,8 +19,8 @@ use filter::Header;
 use script::command::Assembly;
 use script::command::Question;
 use script::elements::put_bad_line;
-use script::elements::put_cause;
 use script::elements::put_element;
+use script::elements::put_refusal;
 use script::elements::put_switch;
 use script::elements::put_written;
 use script::scan::part;
@@ -59,10 +59,10 @@ fn ask_element(value: &[u8], times: u64, out: &mut [u8], at: usize) -> usize {
 fn ask_rewrite(value: &[u8], n: usize, times: u64, out: &mut [u8], at: usize) -> usize {
     let mut space = [0u8; LARGEST_ROOM];
     let room = front(&mut space, n);
-    let cause = element::read::trospel_element_cause(value);
+    let refusal = element::read::trospel_element_refusal(value);
     let written = rewrite_times(value, room, times);
-    if cause != 0 {
-        put_cause(out, at, cause)
+    if refusal != 0 {
+        put_refusal(out, at, refusal)
     } else {
         put_written(out, at, written, room)
     }

@@ -1,5 +1,6 @@
 // The replies of calls and routes, and of the test of a table.
 use calls::FollowUps;
+use calls::Place;
 use calls::Reply;
 use route::Route;
 use script::elements::put_refused;
@@ -46,10 +47,18 @@ fn put_synchronised(out: &mut [u8], at: usize, gone: FollowUps) -> usize {
     put_end(out, o)
 }
 
-fn put_reject(out: &mut [u8], at: usize, bearer: u8, cause: u8) -> usize {
+fn put_place(out: &mut [u8], at: usize, place: Place) -> usize {
+    match place {
+        Place::Nowhere => at,
+        Place::At(p) => put_named(out, at, b" at", wide(p)),
+    }
+}
+
+fn put_reject(out: &mut [u8], at: usize, bearer: u8, cause: u8, place: Place) -> usize {
     let o = put_named(out, at, b"reject", wide(bearer));
     let o = put(out, o, b' ');
     let o = put_number(out, o, wide(cause));
+    let o = put_place(out, o, place);
     put_end(out, o)
 }
 
@@ -59,7 +68,7 @@ pub(crate) fn put_reply(out: &mut [u8], at: usize, reply: Reply) -> usize {
     let number = calls::reply::number(answer);
     match answer {
         calls::Answer::Accept(bearer) => put_accept(out, at, bearer, follow),
-        calls::Answer::Reject(bearer, _) => put_reject(out, at, bearer, number),
+        calls::Answer::Reject(bearer, _, place) => put_reject(out, at, bearer, number, place),
         calls::Answer::Release(default) => put_named_line(out, at, b"release", default as u64),
         calls::Answer::Reattach => put_line(out, at, b"re-attach"),
         calls::Answer::Started(t) => put_named_line(out, at, b"started", t as u64),
