@@ -1,5 +1,5 @@
-/* Asks how elements read: for each line of hexadecimal on standard input it prints 0 or the reader's cause. Lines are as those of
-   `second elements` (second/READING.md). */
+/* Asks how elements read: for each line of hexadecimal on standard input it prints 0, or the reader's cause and place, `42 at 9`. Lines are as
+   those of `second elements` (second/READING.md). */
 #include <stddef.h>
 #include <stdint.h>
 #include <stdio.h>
@@ -85,10 +85,24 @@ static int decode(struct line *line)
     return 1;
 }
 
+/* The cause alone is asked for too. Where it is another than the refusal's, both are printed, which no element is to have. */
+static void answer_octets(const uint8_t *octets, size_t length)
+{
+    unsigned cause = trospel_element_cause(octets, length);
+    uint16_t refusal = trospel_element_refusal(octets, length);
+
+    if (cause != trospel_refusal_cause(refusal))
+        printf("%u, but refused with %u\n", cause, (unsigned)refusal);
+    else if (refusal == TROSPEL_READS)
+        printf("0\n");
+    else
+        printf("%u at %u\n", cause, (unsigned)trospel_refusal_place(refusal));
+}
+
 static void answer(struct line *line, unsigned long number)
 {
     if (decode(line))
-        printf("%u\n", (unsigned)trospel_element_cause(line->octets, line->length));
+        answer_octets(line->octets, line->length);
     else
         printf("bad line %lu\n", number);
 }
