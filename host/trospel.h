@@ -25,10 +25,10 @@ uint8_t trospel_element_cause(const uint8_t *value, size_t length);
 /* The same, and where it broke: 256 times the cause, plus the place; 0 where the value reads. What is said above holds here too. The two
    functions below take it apart.
 
-   The place is an offset from 0 in the value: never past `length`, and at most 255. Of cause 44 or 45 it is the first octet of the filter at
-   fault, the one with direction and identifier; of two filters with one identifier or precedence, that of the later. Of cause 42 it is 0
-   where length, operation or count are wrong, the first of octets that are left over, or `length` where something is missing or reaches
-   past the end. No octet stands at `length`: compare before you index. */
+   The place is an offset from 0 in the value: never past `length`, and at most 255. Of cause 44 or 45 it is the first octet of the
+   earliest filter at fault, the one with direction and identifier; where an identifier or a precedence is there again, of the earliest
+   filter that has one of a filter before it. Of cause 42 it is 0 where length, operation or count are wrong, the first of octets that are
+   left over, or `length` where something is missing or reaches past the end. No octet stands at `length`: compare before you index. */
 uint16_t trospel_element_refusal(const uint8_t *value, size_t length);
 
 static inline uint8_t trospel_refusal_cause(uint16_t refusal)
