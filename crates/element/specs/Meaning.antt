@@ -147,7 +147,8 @@ pub data BreaksAt (xs : List ℕ) (place : ℕ) : Type 0 where
   -- "An entry or parameter past the end or missing: the value's length." Of a value with E no more is said than that it
   -- is set: parameters fill what the entries leave, so that nothing else can be wrong
   atEnd : (HeadWrong xs → ⊥) → place ≡ length xs → (extensionIn (getD xs 0 0) ≡ 1) ⊎ NoFrontFramed xs → BreaksAt xs place
-  -- "Left-over octets: the first of them." The octets before it are framed, and without E no other front of the value is
+  -- "Left-over octets: the first of them." The octets before it are framed. That no other front of a value without E is framed is not shown; which place it
+  -- is, the equation `placeOf` fixes
   atLeft : (HeadWrong xs → ⊥) → extensionIn (getD xs 0 0) ≡ 0 → place < length xs → (framedOf (take place xs) ≡ notFramed → ⊥) → BreaksAt xs place
 
 -- ---- The place, for whichever reason the value is refused: the theorems `place-says` and `refusal-placed`

@@ -47,7 +47,7 @@ fn put_marks(out: &mut [u8], at: usize, marks: [bool; PLACES]) -> usize {
     o
 }
 
-pub fn put_cause(out: &mut [u8], at: usize, cause: u8) -> usize {
+pub(crate) fn put_cause(out: &mut [u8], at: usize, cause: u8) -> usize {
     put_named_line(out, at, b"cause", wide(cause))
 }
 
