@@ -37,6 +37,18 @@ module _ (p : ℕ → Bool) where
   all-same q zero h = refl
   all-same q (suc n) h = rw (all-same q n (λ i l. h i (omega arith)), h n (omega arith))
 
+  -- two tests of each index
+  pub all-both : (q : ℕ → Bool) (n : ℕ) → allBelow (λ i. p i && q i) n ≡ allBelow p n && allBelow q n
+  unfolding allBelow
+  all-both q zero = refl
+  all-both q (suc n) = ap (λ (b : Bool). b && (p n && q n)) (all-both q n) ∙ go (allBelow p n) (allBelow q n) (p n) (q n)
+    where
+      go : (a b x y : Bool) → (a && b) && (x && y) ≡ (a && x) && (b && y)
+      go true true x y = refl
+      go true false true y = refl
+      go true false false y = refl
+      go false b x y = refl
+
   pub any-start : false ≡ anyBelow p 0
   unfolding anyBelow
   any-start = refl

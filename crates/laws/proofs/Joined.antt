@@ -36,6 +36,11 @@ in-left x xs ys h = in-append x xs ys ∙ or-left (isIn x xs) (isIn x ys) h
 pub in-right : (x : ℕ) (xs ys : List ℕ) → In x ys → In x (xs ++ ys)
 in-right x xs ys h = in-append x xs ys ∙ or-right (isIn x xs) (isIn x ys) h
 
+-- no number is in an empty list
+pub in-none : {A : Type 0} (x : ℕ) → In x [] → A
+unfolding isIn
+in-none x h = absurd (false≢true h)
+
 -- what holds of each element holds of a number that is in the list
 pub in-holds : (P : ℕ → Type 0) (xs : List ℕ) → All P xs → (n : ℕ) → In n xs → P n
 unfolding isIn
@@ -46,23 +51,23 @@ in-holds P (x ∷ xs) a n h = ⊎-elim (λ e. subst P (sym (eqb-true n x e)) (a 
 pub in-apart : (n k : ℕ) (xs : List ℕ) → In n xs → isIn k xs ≡ false → n ≡ k → ⊥
 in-apart n k xs h o e = never h (rw e o)
 
-in-head : (x : ℕ) (xs : List ℕ) → In x (x ∷ xs)
+pub in-head : (x : ℕ) (xs : List ℕ) → In x (x ∷ xs)
 unfolding isIn
 in-head x xs = or-left (eqb x x) (isIn x xs) (eq-eqb x x refl)
 
-in-tail : (x y : ℕ) (xs : List ℕ) → In x xs → In x (y ∷ xs)
+pub in-tail : (x y : ℕ) (xs : List ℕ) → In x xs → In x (y ∷ xs)
 unfolding isIn
 in-tail x y xs h = or-right (eqb x y) (isIn x xs) h
 
-in-cons : (x y : ℕ) (xs : List ℕ) → In x (y ∷ xs) → (x ≡ y) ⊎ In x xs
+pub in-cons : (x y : ℕ) (xs : List ℕ) → In x (y ∷ xs) → (x ≡ y) ⊎ In x xs
 unfolding isIn
 in-cons x y xs h = ⊎-elim (λ e. inl (eqb-true x y e)) (λ e. inr e) (either (eqb x y) (isIn x xs) h)
 
-out : {b : Bool} → (b ≡ true → ⊥) → b ≡ false
+pub out : {b : Bool} → (b ≡ true → ⊥) → b ≡ false
 out {b = true} n = absurd (n refl)
 out {b = false} n = refl
 
-fresh-cons : (x : ℕ) (xs : List ℕ) → isIn x xs ≡ false → Fresh xs → Fresh (x ∷ xs)
+pub fresh-cons : (x : ℕ) (xs : List ℕ) → isIn x xs ≡ false → Fresh xs → Fresh (x ∷ xs)
 unfolding repeats
 fresh-cons x xs e f = rw (e, f)
 

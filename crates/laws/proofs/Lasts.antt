@@ -54,11 +54,33 @@ module _ (p : ℕ → Bool) {A : Type 0} (f : ℕ → A) where
       go false true x y h = h
       go false false x y h = h
 
+  -- .. and f only where it is asked
+  pub last-none : (d : A) (n : ℕ) → ((i : ℕ) → i < n → p i ≡ false) → lastBelow p f d n ≡ d
+  unfolding lastBelow
+  last-none d zero h = refl
+  last-none d (suc n) h = rw (h n (omega arith)) (last-none d n (λ i l. h i (omega arith)))
+
+  pub last-same : (q : ℕ → Bool) (g : ℕ → A) (d : A) (n : ℕ) → ((i : ℕ) → i < n → p i ≡ q i) → ((i : ℕ) → i < n → f i ≡ g i) → lastBelow p f d n ≡ lastBelow q g d n
+  unfolding lastBelow
+  last-same q g d zero h k = refl
+  last-same q g d (suc n) h k = rw (h n (omega arith), k n (omega arith), last-same q g d n (λ i l. h i (omega arith)) (λ i l. k i (omega arith)))
+
+  -- seen through a function
+  pub last-map : {B : Type 0} (see : A → B) (d : A) (n : ℕ) → see (lastBelow p f d n) ≡ lastBelow p (λ i. see (f i)) (see d) n
+  unfolding lastBelow
+  last-map see d zero = refl
+  last-map {B} see d (suc n) = go (p n) (last-map see d n)
+    where
+      go : (b : Bool) → see (lastBelow p f d n) ≡ lastBelow p (λ i. see (f i)) (see d) n
+          → see (pick b (f n) (lastBelow p f d n)) ≡ pick b (see (f n)) (lastBelow p (λ i. see (f i)) (see d) n)
+      go true h = refl
+      go false h = h
+
   -- a walk after which p's last index decides what is seen of the state
   pub last-walk : {S : Type 0} (Good : S → Type 0) (see : S → A) (turn : S → ℕ → S) (s : S) (n : ℕ) → Good s
-      → ((i : ℕ) (s : S) → Good s → Good (turn s i) × (see (turn s i) ≡ pick (p i) (f i) (see s)))
+      → ((i : ℕ) (s : S) → i < n → Good s → Good (turn s i) × (see (turn s i) ≡ pick (p i) (f i) (see s)))
       → Good (walk turn s n) × (see (walk turn s n) ≡ lastBelow p f (see s) n)
   unfolding lastBelow
   last-walk {S} Good see turn s n g h =
       walk-keeps turn s (λ (i : ℕ) (r : S). Good r × (see r ≡ lastBelow p f (see s) i)) n (g, refl)
-      (λ i r _ k. (h i r (k .0) .0, h i r (k .0) .1 ∙ ap (pick (p i) (f i)) (k .1)))
+      (λ i r l k. (h i r l (k .0) .0, h i r l (k .0) .1 ∙ ap (pick (p i) (f i)) (k .1)))

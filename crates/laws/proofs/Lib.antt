@@ -1,4 +1,5 @@
 pub mod Bits
+pub mod Counts
 pub mod Index
 pub mod Joined
 pub mod Lasts

@@ -1,5 +1,5 @@
 -- Tests and lists said by index, over any element type.
-use Prim.Native.Nat.{ℕ, zero, suc, _<_}
+use Prim.Native.Nat.{ℕ, zero, suc, _+_, _<_}
 use mathlib.Core.Bool.{Bool, true, false, not, _&&_, _||_}
 use mathlib.Core.List.{List, [], _∷_, _++_}
 use Rattle.laws.specs.Says.{pick}
@@ -28,6 +28,18 @@ module _ (p : ℕ → Bool) where
   unfoldable pub picks : (ℕ → ℕ) → ℕ → List ℕ
   picks g zero = []
   picks g (suc n) = picks g n ++ pick (p n) (g n ∷ []) []
+
+-- what f gives at each index below n, added up
+unfoldable pub sumBelow : (ℕ → ℕ) → ℕ → ℕ
+sumBelow f zero = 0
+sumBelow f (suc n) = sumBelow f n + f n
+
+abbrev pub one : Bool → ℕ
+one b = pick b 1 0
+
+-- how many indices below n have p
+unfoldable pub countBelow : (ℕ → Bool) → ℕ → ℕ
+countBelow p n = sumBelow (λ i. one (p i)) n
 
 -- s, changed by f at each index below n in turn
 unfoldable pub walk : {A : Type 0} → (A → ℕ → A) → A → ℕ → A
