@@ -29,7 +29,7 @@ use Rattle.filter.specs.Sizes.{placeCount, precedenceCount}
 use Rattle.table.specs.declared.bearer.Table.{Table}
 use Rattle.table.specs.Bearers.{bearerCount, isIdentity, indexOf, noBearer, inRow, bearerAt, filterAt, roleAt, isIdle, connectionAt}
 use Rattle.table.specs.Ranges.{TableInRange}
-use Rattle.table.specs.WellFormed.{precedenceIn, rowPrecedences, bearerFine, distinctTransactions, distinctPrecedences, wellFormed, Held}
+use Rattle.table.specs.WellFormed.{precedenceIn, rowPrecedences, bearerFine, distinctTransactions, distinctPrecedences, bearersFine, Held}
 use Rattle.table.specs.inner.Walk.{bitOf, hasBit, withBit, Marks, noneMarked, marked, activePrecedences, bearerMarked, marksAt}
 use Rattle.table.proofs.Meaning.{range-says, Distinct, distinct-says, held-active, held-identity}
 use Rattle.table.proofs.Within.{row-in, in-row, fresh-row, row-fresh}
@@ -243,10 +243,10 @@ module _ (t : Table) (ok : TableInRange t) where
     pub marks-tell : not (marksAt t bearerCount .again) ≡ distinctPrecedences t
     marks-tell = ap not marks-repeat ∙ says-same fresh-says (distinct-says t ok fine)
 
--- the tests that the code makes are those of the definition
+-- the tests that the code makes of the bearers are those of the definition
 pub all-told : (t : Table) → TableInRange t
-    → (allBelow (bearerFine t) bearerCount && not (marksAt t bearerCount .again)) && distinctTransactions t ≡ wellFormed t
-unfolding wellFormed
+    → (allBelow (bearerFine t) bearerCount && not (marksAt t bearerCount .again)) && distinctTransactions t ≡ bearersFine t
+unfolding bearersFine
 all-told t ok = go (allBelow (bearerFine t) bearerCount) refl
   where
     go : (fine : Bool) → allBelow (bearerFine t) bearerCount ≡ fine → (fine && not (marksAt t bearerCount .again)) && distinctTransactions t ≡ fine && distinctTransactions t && distinctPrecedences t

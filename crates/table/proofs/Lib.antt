@@ -1,5 +1,10 @@
+pub mod Cells
+pub mod Counting
 pub mod Keys
+pub mod Listing
+pub mod Relisting
 pub mod Meaning
+pub mod Tested
 pub mod Typed
 pub mod Walks
 pub mod Within

@@ -2,11 +2,14 @@
 use mathlib.Core.Path.{_≡_, refl, sym, _∙_, ap, subst}
 use mathlib.Core.Bool.{Bool, true, false, _&&_, false≢true}
 use mathlib.Core.Logic.{_⊎_, inl, inr, ⊎-elim}
+use mathlib.Core.List.{List}
 use Prim.Native.Nat.{ℕ, _<_, _≤_}
+use lib.ListN.{getD}
 use native.Mathlib.Omega.{arith}
 use Rattle.laws.specs.Says.{pick, Says}
 use Rattle.laws.specs.Index.{SomeBelow, allBelow}
 use Rattle.laws.proofs.Typed.{each-at}
+use Rattle.laws.proofs.Index.{tab-at, tab-is}
 use Rattle.laws.proofs.Tests.{both, either, or-true}
 use Rattle.laws.proofs.Says.{says-true, says-eq, says-le, says-and, says-if, says-unless, says-all, says-so, says-no, which, never}
 use Rattle.filter.specs.declared.component.Filter.{Filter}
@@ -17,12 +20,15 @@ use Rattle.filter.proofs.Empty.{empty-says}
 use Rattle.filter.proofs.Theorems.{fittable-says}
 use Rattle.table.specs.declared.bearer.Role.{Role}
 use Rattle.table.specs.declared.bearer.Role.the-variants.{Idle, Default, Dedicated}
+use Rattle.table.specs.declared.bearer.Bearer.{Bearer}
 use Rattle.table.specs.declared.bearer.Table.{Table}
 use Rattle.filter.specs.Sizes.{placeCount}
 use Rattle.filter.specs.Build.{emptyFilter}
 use Rattle.table.specs.Bearers.{firstIdentity, lastIdentity, bearerCount, lastTransaction, isIdentity, indexOf, identityOf, noBearer, roleAt, transactionAt, filterAt, connectionOf, connectionAt, isIdle, isDefault, isDedicated, roleOf}
 use Rattle.table.specs.Ranges.{TableInRange}
-use Rattle.table.specs.WellFormed.{linkFine, filterFine, bearerFine, transactionsApart, transactionFrom, distinctTransactions, distinctAt, distinctPrecedences, wellFormed, Held, ActiveDefault, WellFormed}
+use Rattle.table.specs.WellFormed.{linkFine, filterFine, bearerFine, transactionsApart, transactionFrom, distinctTransactions, distinctAt, distinctPrecedences, bearersFine, cellRight, listsRight, wellFormed, Held, ActiveDefault, Well, RightLists, WellFormed}
+use Rattle.table.specs.Lists.{heldCount, cellAt, listsOf}
+use Rattle.table.specs.Tables.{tableOf, view}
 use Rattle.table.proofs.Within.{Within, within-says}
 
 -- no two roles are one
@@ -58,7 +64,7 @@ held-coded : (f : Filter) → wellCoded f ≡ true → held f ≡ true
 unfolding wellCoded
 held-coded f e = both (held f) _ (both _ _ e .0) .0
 
-unheld : held emptyFilter ≡ false
+pub unheld : held emptyFilter ≡ false
 unfolding held
 unheld = refl
 
@@ -183,10 +189,10 @@ module _ (t : Table) (ok : TableInRange t) where
         let b = n .below in
         range-says (connectionAt t i) .from (omega arith, omega arith)
 
-  -- the test is true exactly for the well-formed tables of document 01
-  pub well-says : Says (wellFormed t) (WellFormed t)
-  unfolding wellFormed
-  well-says =
+  -- of the bearers
+  pub bearers-say : Says (bearersFine t) (Well (view t))
+  unfolding bearersFine
+  bearers-say =
       says-so (says-and (says-and (says-all bearerCount alone-says) single-says) apart-says)
       (λ h.
       record {
@@ -207,3 +213,21 @@ module _ (t : Table) (ok : TableInRange t) where
         ),
         distinct-apart (w .distinct),
       ))
+
+  -- of the lists
+  pub lists-say : Says (listsRight t) (RightLists t)
+  unfolding listsRight cellRight listsOf
+  lists-say =
+      says-so (says-all heldCount (λ n l. says-eq (getD (t .lists) n 0) (cellAt (t .bearers) n)))
+      (λ h. tab-is 0 (cellAt (t .bearers)) (t .lists) heldCount (ok .lists .count) h)
+      (λ e n l. ap (λ (cells : List ℕ). getD cells n 0) e ∙ tab-at (cellAt (t .bearers)) heldCount n 0 l)
+
+  -- the test is true exactly for the well-formed tables of document 01
+  pub well-says : Says (wellFormed t) (WellFormed t)
+  unfolding wellFormed
+  well-says = says-so (says-and bearers-say lists-say) (λ h. record { bearers = h .0; lists = h .1 }) (λ w. (w .bearers, w .lists))
+
+-- the lists of a table that is made from its bearers are right, whatever these are
+pub built-right : (bs : List Bearer) → listsRight (tableOf bs) ≡ true
+unfolding listsRight cellRight listsOf
+built-right bs = says-all heldCount (λ n l. says-eq (getD (listsOf bs) n 0) (cellAt bs n)) .from (λ n l. tab-at (cellAt bs) heldCount n 0 l)

@@ -5,7 +5,8 @@ use Rattle.filter.specs.declared.component.Filter.{Filter}
 use Rattle.filter.specs.declared.packet.Header.{Header}
 use Rattle.filter.specs.Fittable.{SomePacketFitsBy}
 use Rattle.filter.specs.Sizes.{placeCount}
-use Rattle.table.specs.Bearers.{bearerCount, View}
+use Rattle.table.specs.Bearers.{bearerCount}
+use Rattle.table.specs.Tables.{View}
 use Rattle.table.specs.WellFormed.{WellBy}
 
 -- where, by b, some packet fits each filter that a table holds, as by a some does, a table that is well formed by a is so by b

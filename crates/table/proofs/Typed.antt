@@ -1,4 +1,6 @@
 -- What the declared types tell: a table has eleven bearers of sixteen places, every number in its type's range.
+use Prim.Native.Nat.{_^_, _<_}
+use denote.Struct.Field.{u8-field}
 use Rattle.laws.proofs.Typed.{Tells, array-tells}
 use Rattle.filter.specs.Ranges.{FilterInRange}
 use Rattle.filter.proofs.Typed.{filter-in-range}
@@ -24,4 +26,8 @@ bearer-in-range b vs is =
     }
 
 pub table-in-range : Tells table.the-field TableInRange
-table-in-range t vs is = record { bearers = array-tells bearer.the-field BearerInRange bearer-in-range 11 (t .bearers) _ (is .1 .1 .0) }
+table-in-range t vs is =
+    record {
+      bearers = array-tells bearer.the-field BearerInRange bearer-in-range 11 (t .bearers) _ (is .1 .1 .0);
+      lists = array-tells u8-field (λ n. n < 2 ^ 8) (λ x vs is. is .1) 2816 (t .lists) _ (is .1 .1 .1 .0);
+    }

@@ -4,23 +4,29 @@ use mathlib.Core.Bool.{Bool, true, false, not, _&&_, _||_, and-true, or-false, o
 use mathlib.Core.List.{List, [], _∷_}
 use mathlib.Core.Logic.{_⊎_, inl, inr}
 use Prim.Native.Nat.{ℕ, zero, suc, _+_, _≤_, _<_}
+use native.Mathlib.Nat.{add-zero}
+use lib.Dec.{eqb}
 use native.Mathlib.Numerals.{add-one}
 use native.Mathlib.Omega.{arith}
 use lib.ListN.{length, getD, length-set, replicate}
 use Rattle.laws.specs.Says.{pick}
-use Rattle.laws.specs.Index.{allBelow, walk, tab, joined}
+use Rattle.laws.specs.Index.{allBelow, walk, tab, joined, one, sumBelow, countBelow}
 use Rattle.laws.specs.Lists.{fold}
-use Rattle.laws.proofs.Index.{all-same, tab-at}
+use Rattle.laws.proofs.Index.{all-same, all-both, tab-at}
+use Rattle.laws.proofs.Counts.{sum-start, sum-more, sum-le, count-start, count-more, count-le}
+use Rattle.laws.proofs.Says.{picked}
 use Rattle.filter.specs.declared.component.Filter.{Filter}
-use Rattle.filter.specs.Coding.{held, emptyPlace}
+use Rattle.filter.specs.Coding.{held, uplink, emptyPlace}
 use Rattle.filter.specs.Fittable.{placeFine}
 use Rattle.table.specs.declared.bearer.Role.{Role}
 use Rattle.table.specs.declared.bearer.Role.the-variants.{Idle, Default, Dedicated}
 use Rattle.table.specs.declared.bearer.Table.{Table}
 use Rattle.filter.specs.Sizes.{placeCount, precedenceCount}
-use Rattle.table.specs.Bearers.{bearerCount, isIdentity, indexOf, inRow, bearerAt, roleAt, transactionAt, isIdle, isDefault, connectionAt}
+use Rattle.table.specs.Bearers.{bearerCount, isIdentity, indexOf, identityOf, inRow, bearerAt, roleAt, transactionAt, isIdle, isDefault, connectionAt}
 use Rattle.table.specs.WellFormed.{linkFine, transactionFine, filterFine, bearerFine, transactionsApart, transactionFrom, distinctTransactions, precedenceIn, rowPrecedences}
 use Rattle.table.specs.inner.Walk.{defaultAt, linkIn, bearerIn, fineAt, apartIn, apartFrom, bitOf, hasBit, withBit, Marks, noneMarked, marked, markedWith, precedenceOf, activePrecedences, bearerMarked, marksAt, Told}
+use Rattle.table.specs.Lists.{isUplink, cellOf}
+use Rattle.table.specs.inner.Lists.{beginsAt, standsAt, filterTold, placeStands, placeTold, upIn, bearerStands, uplinksAt, bearerTold}
 use Rattle.laws.proofs.Lists.{fold-append}
 use Rattle.table.proofs.Meaning.{range-says}
 
@@ -152,6 +158,10 @@ module _ {fine : Bool} {marks : Marks} {all : Bool} {seen : List ℕ} (told : To
       }
 
 -- ---- one filter
+pub one-le : (b : Bool) → one b ≤ 1
+one-le true = omega arith
+one-le false = omega arith
+
 held-marks : (bit : ℕ) (seen : List ℕ) (f : Filter) → held f ≡ true
     → markedWith bit seen (precedenceOf f) ≡ record { seen = withBit bit seen (f .precedence); again = hasBit bit seen (f .precedence) }
 unfolding fold marked
@@ -161,80 +171,140 @@ no-marks : (bit : ℕ) (seen : List ℕ) (f : Filter) → held f ≡ false → m
 unfolding fold
 no-marks bit seen f h = rw h
 
-module _ (bit : ℕ) (seen : List ℕ) (f : Filter) where
-  abbrev pub FilterTold : Bool → List ℕ → Type 0
-  FilterTold r after = Told (placeFine f) (markedWith bit seen (precedenceOf f)) r after
+module _ (bit : ℕ) (seen cells : List ℕ) (from cell : ℕ) (f : Filter) (all : Bool) where
+  abbrev pub FilterFound : Bool → List ℕ → ℕ → ℕ → Type 0
+  FilterFound r after old new = (r ≡ all && filterTold bit seen cells from cell f) × (after ≡ markedWith bit seen (precedenceOf f) .seen) × (new ≡ old + one (isUplink f))
 
-  pub told-held : (fine before : Bool) (after : List ℕ) → held f ≡ true → fine ≡ placeFine f
-      → (before ≡ hasBit bit seen (f .precedence)) × (after ≡ withBit bit seen (f .precedence)) → FilterTold (fine && not before) after
-  told-held fine before after h e m = rw (held-marks bit seen f h, e, m .0, m .1) (record { tells = refl; leaves = refl })
+  regroup : (a f g s : Bool) → ((a && f) && not g) && s ≡ a && ((f && s) && not g)
+  regroup true true g true = and-true (not g)
+  regroup true true true false = refl
+  regroup true true false false = refl
+  regroup true false g s = refl
+  regroup false f g s = refl
 
-  pub told-unheld : (fine : Bool) → held f ≡ false → fine ≡ placeFine f → FilterTold fine seen
-  told-unheld fine h e = rw (no-marks bit seen f h, e) (record { tells = sym (and-true (placeFine f)); leaves = refl })
+  pub found-held : (fine before up : Bool) (there : ℕ) (after : List ℕ) (old : ℕ) → held f ≡ true → fine ≡ placeFine f
+      → (before ≡ hasBit bit seen (f .precedence)) × (after ≡ withBit bit seen (f .precedence)) → up ≡ uplink f → there ≡ getD cells (from + f .precedence) 0
+      → FilterFound (((all && fine) && not before) && (not up || eqb there cell)) after old (old + one up)
+  unfolding filterTold standsAt
+  found-held fine before up there after old h e m u q = (
+    rw (held-marks bit seen f h, h, e, m .0, u, q) (regroup all (placeFine f) (hasBit bit seen (f .precedence)) (not (uplink f) || eqb (getD cells (from + f .precedence) 0) cell)),
+    m .1 ∙ sym (ap (λ (k : Marks). k .seen) (held-marks bit seen f h)),
+    rw (h, u),
+  )
+
+  pub found-unheld : (fine : Bool) (old : ℕ) → held f ≡ false → fine ≡ placeFine f → FilterFound (all && fine) seen old old
+  unfolding filterTold standsAt
+  found-unheld fine old h e = (
+    rw (no-marks bit seen f h, h, e) (ap (λ (b : Bool). all && b) (sym (and-true (placeFine f && true) ∙ and-true (placeFine f)))),
+    sym (ap (λ (k : Marks). k .seen) (no-marks bit seen f h)),
+    rw h (sym (add-zero old)),
+  )
 
 -- ---- the filters of a row
-module _ (bit : ℕ) (row : List Filter) (before : List ℕ) where
-  -- the places below j are tested and marked
-  abbrev pub RowTold : ℕ → Bool → List ℕ → Type 0
-  RowTold j all seen = Told (allBelow (filterFine false row) j) (markedWith bit before (joined (precedenceIn row) j)) all seen
+module _ (bit : ℕ) (cells : List ℕ) (from bearer : ℕ) (row : List Filter) (before : List ℕ) where
+  -- the places below j are tested and marked, and their uplink filters counted
+  pub record RowTold (j : ℕ) (all : Bool) (uplinks : ℕ) (seen : List ℕ) : Type 0 where
+    pub told : Told (allBelow (placeTold cells from bearer row) j) (markedWith bit before (joined (precedenceIn row) j)) all seen
+    pub counted : uplinks ≡ countBelow (upIn row) j
 
-  pub row-start : RowTold 0 true before
+  pub row-start : RowTold 0 true 0 before
   unfolding allBelow joined fold
-  row-start = record { tells = refl; leaves = refl }
+  row-start = record { told = record { tells = refl; leaves = refl }; counted = count-start (upIn row) }
 
-  pub row-more : (j : ℕ) {all r : Bool} {seen after : List ℕ} → RowTold j all seen → FilterTold bit seen (inRow row j) r after → RowTold (j + 1) (all && r) after
-  unfolding allBelow joined filterFine
-  row-more j told h =
-      rw (add-one j, fold-append (marked bit) (joined (precedenceIn row) j) (precedenceIn row j) (record { seen = before; again = false }))
-      (told-more told bit (precedenceIn row j) h)
+  pub row-more : (j : ℕ) {all r : Bool} {uplinks new : ℕ} {seen after : List ℕ} → RowTold j all uplinks seen
+      → FilterFound bit seen cells from (cellOf bearer j) (inRow row j) all r after uplinks new → RowTold (j + 1) r new after
+  unfolding allBelow joined filterFine filterTold placeTold placeStands upIn
+  row-more j {all} {r} {uplinks} {new} {seen} {after} so h =
+      record {
+        told = rw (add-one j, fold-append (marked bit) (joined (precedenceIn row) j) (precedenceIn row j) (record { seen = before; again = false }), h .0)
+            (told-more (so .told) bit (precedenceIn row j) (record { tells = refl; leaves = h .1 }));
+        counted = count-more (upIn row) j uplinks new (h .2) (so .counted);
+      }
 
-  pub row-long : (j : ℕ) {all : Bool} {seen : List ℕ} → RowTold j all seen → length seen ≡ length before
-  row-long j told = ap length (told .leaves) ∙ marked-length bit (joined (precedenceIn row) j) before false
+  module _ (j : ℕ) {all : Bool} {uplinks : ℕ} {seen : List ℕ} (so : RowTold j all uplinks seen) where
+    pub row-long : length seen ≡ length before
+    row-long = ap length (so .told .leaves) ∙ marked-length bit (joined (precedenceIn row) j) before false
 
-  pub row-done : (j : ℕ) {all : Bool} {seen : List ℕ} → placeCount ≤ j → j ≤ placeCount → RowTold j all seen
-      → Told (allBelow (filterFine false row) placeCount) (markedWith bit before (rowPrecedences row)) all seen
-  unfolding rowPrecedences
-  row-done j l m told = let e : j ≡ placeCount = omega arith in rw e at told
+    pub row-few : uplinks ≤ j
+    row-few = let e = so .counted in let l = count-le (upIn row) j in omega arith
+
+    pub row-done : placeCount ≤ j → j ≤ placeCount
+        → Told (allBelow (placeTold cells from bearer row) placeCount) (markedWith bit before (rowPrecedences row)) all seen × (uplinks ≡ countBelow (upIn row) placeCount)
+    unfolding rowPrecedences
+    row-done l m = let e : j ≡ placeCount = omega arith in let h = rw e at so in (h .told, h .counted)
 
 -- ---- the bearers of a table
-abbrev pub TableTold : List Bool → Table → ℕ → Bool → List ℕ → Type 0
-TableTold links t i all seen = Told (allBelow (fineAt links t) i) (marksAt t i) all seen
+module _ (links : List Bool) (cells : List ℕ) (t : Table) where
+  -- those below i are tested and marked, and their uplink filters counted
+  pub record TableTold (i : ℕ) (all : Bool) (uplinks : ℕ) (seen : List ℕ) : Type 0 where
+    pub told : Told (allBelow (bearerTold links cells t) i) (marksAt t i) all seen
+    pub counted : uplinks ≡ sumBelow (uplinksAt t) i
 
-pub table-start : (links : List Bool) (t : Table) → TableTold links t 0 true (replicate precedenceCount 0)
-unfolding allBelow walk noneMarked
-table-start links t = record { tells = refl; leaves = refl }
+  pub table-start : TableTold 0 true 0 (replicate precedenceCount 0)
+  unfolding allBelow walk noneMarked
+  table-start = record { told = record { tells = refl; leaves = refl }; counted = sum-start (uplinksAt t) }
 
-marks-long : (t : Table) (n : ℕ) → length (marksAt t n .seen) ≡ precedenceCount
-unfolding walk bearerMarked noneMarked
-marks-long t zero = refl
-marks-long t (suc n) =
-    marked-length (bitOf (connectionAt t n)) (activePrecedences t n) (marksAt t n .seen) (marksAt t n .again) ∙ marks-long t n
+  marks-long : (n : ℕ) → length (marksAt t n .seen) ≡ precedenceCount
+  unfolding walk bearerMarked noneMarked
+  marks-long zero = refl
+  marks-long (suc n) = marked-length (bitOf (connectionAt t n)) (activePrecedences t n) (marksAt t n .seen) (marksAt t n .again) ∙ marks-long n
 
-pub table-long : (links : List Bool) (t : Table) (i : ℕ) {all : Bool} {seen : List ℕ} → TableTold links t i all seen → length seen ≡ precedenceCount
-table-long links t i told = ap length (told .leaves) ∙ marks-long t i
+  few-at : (i : ℕ) → uplinksAt t i ≤ placeCount
+  unfolding uplinksAt
+  few-at i = picked (λ (n : ℕ). n ≤ placeCount) (isIdle (roleAt t i)) 0 (countBelow (upIn (bearerAt t i .row)) placeCount) (omega arith) (count-le (upIn (bearerAt t i .row)) placeCount)
 
-pub table-done : (links : List Bool) (t : Table) (i : ℕ) {all : Bool} {seen : List ℕ} → bearerCount ≤ i → i ≤ bearerCount → TableTold links t i all seen
-    → all ≡ allBelow (fineAt links t) bearerCount && not (marksAt t bearerCount .again)
-table-done links t i l m told = let e : i ≡ bearerCount = omega arith in let h = rw e at told in h .tells
+  module _ (i : ℕ) {all : Bool} {uplinks : ℕ} {seen : List ℕ} (so : TableTold i all uplinks seen) where
+    pub table-long : length seen ≡ precedenceCount
+    table-long = ap length (so .told .leaves) ∙ marks-long i
 
-module _ (links : List Bool) (t : Table) (i : ℕ) {all : Bool} {seen : List ℕ} (told : TableTold links t i all seen) (transaction link : Bool) where
-  abbrev HeadTold : Type 0
-  HeadTold = (transaction ≡ transactionFine (isIdle (roleAt t i)) (transactionAt t i)) × (link ≡ linkIn links (roleAt t i))
+    pub table-few : i ≤ bearerCount → uplinks ≤ 176
+    table-few l = let e = so .counted in let m = sum-le (uplinksAt t) placeCount i (λ k _. few-at k) in omega arith
 
-  regrouped : (a x l r : Bool) → ((a && x) && l) && r ≡ a && ((x && l) && r)
-  regrouped true x l r = refl
-  regrouped false x l r = refl
+    pub table-done : bearerCount ≤ i → i ≤ bearerCount
+        → (all ≡ allBelow (bearerTold links cells t) bearerCount && not (marksAt t bearerCount .again)) × (uplinks ≡ sumBelow (uplinksAt t) bearerCount)
+    table-done l m = let e : i ≡ bearerCount = omega arith in let h = rw e at so in (h .told .tells, h .counted)
 
-  pub idle-more : (r : Bool) → HeadTold → isIdle (roleAt t i) ≡ true → r ≡ allBelow (filterFine true (bearerAt t i .row)) placeCount
-      → TableTold links t (i + 1) (((all && transaction) && link) && r) seen
-  unfolding allBelow walk bearerMarked bearerIn fold
-  idle-more r h d e =
-      rw (add-one i, d, ← e, ← rw d at (h .0), ← h .1, ← regrouped (allBelow (fineAt links t) i) transaction link r) (told-fine (told-fine (told-fine told transaction) link) r)
+    module _ (transaction link : Bool) where
+      abbrev HeadTold : Type 0
+      HeadTold = (transaction ≡ transactionFine (isIdle (roleAt t i)) (transactionAt t i)) × (link ≡ linkIn links (roleAt t i))
 
-  pub active-more : {r : Bool} {after : List ℕ} → HeadTold → isIdle (roleAt t i) ≡ false
-      → Told (allBelow (filterFine false (bearerAt t i .row)) placeCount) (markedWith (bitOf (connectionAt t i)) seen (rowPrecedences (bearerAt t i .row))) r after
-      → TableTold links t (i + 1) (((all && transaction) && link) && r) after
-  unfolding allBelow walk bearerMarked bearerIn
-  active-more h d e =
-      rw (add-one i, d, ← rw d at (h .0), ← h .1, ← regrouped (allBelow (fineAt links t) i) transaction link (allBelow (filterFine false (bearerAt t i .row)) placeCount))
-      (told-more (told-fine (told-fine told transaction) link) (bitOf (connectionAt t i)) (rowPrecedences (bearerAt t i .row)) e)
+      regrouped : (a x l r : Bool) → ((a && x) && l) && r ≡ a && ((x && l) && r)
+      regrouped true x l r = refl
+      regrouped false x l r = refl
+
+      pub idle-more : (r : Bool) → HeadTold → isIdle (roleAt t i) ≡ true → r ≡ allBelow (filterFine true (bearerAt t i .row)) placeCount
+          → TableTold (i + 1) (((all && transaction) && link) && r) uplinks seen
+      unfolding allBelow walk bearerMarked bearerIn fold bearerTold bearerStands uplinksAt
+      idle-more r h d e =
+          record {
+            told = rw (add-one i, d, ← e, ← rw d at (h .0), ← h .1, and-true ((transaction && link) && r), ← regrouped (allBelow (bearerTold links cells t) i) transaction link r)
+                (told-fine (told-fine (told-fine (so .told) transaction) link) r);
+            counted = sum-more (uplinksAt t) i uplinks uplinks (rw d (sym (add-zero uplinks))) (so .counted);
+          }
+
+      pub active-more : {r : Bool} {more new : ℕ} {after : List ℕ} → HeadTold → isIdle (roleAt t i) ≡ false
+          → Told (allBelow (placeTold cells (beginsAt (connectionAt t i)) (identityOf i) (bearerAt t i .row)) placeCount)
+          (markedWith (bitOf (connectionAt t i)) seen (rowPrecedences (bearerAt t i .row))) r after
+          → more ≡ countBelow (upIn (bearerAt t i .row)) placeCount → new ≡ uplinks + more → TableTold (i + 1) (((all && transaction) && link) && r) new after
+      unfolding allBelow walk bearerMarked bearerIn bearerTold bearerStands uplinksAt placeTold
+      active-more {r} {more} {new} h d e m n =
+          record {
+            told = rw (add-one i, d, ← rw d at (h .0), ← h .1, split, ← regrouped (allBelow (bearerTold links cells t) i) transaction link (allBelow (placeTold cells (beginsAt (connectionAt t i)) (identityOf i) (bearerAt t i .row)) placeCount))
+                (told-more (told-fine (told-fine (so .told) transaction) link) (bitOf (connectionAt t i)) (rowPrecedences (bearerAt t i .row)) e);
+            counted = sum-more (uplinksAt t) i uplinks new (n ∙ rw (d, m)) (so .counted);
+          }
+        where
+          fine : Bool
+          fine = allBelow (filterFine false (bearerAt t i .row)) placeCount
+
+          stand : Bool
+          stand = allBelow (placeStands cells (beginsAt (connectionAt t i)) (identityOf i) (bearerAt t i .row)) placeCount
+
+          split : ((transaction && link) && fine) && stand ≡ (transaction && link) && allBelow (placeTold cells (beginsAt (connectionAt t i)) (identityOf i) (bearerAt t i .row)) placeCount
+          split =
+              go (transaction && link) fine stand
+              ∙ ap (λ (b : Bool). (transaction && link) && b) (sym (all-both (filterFine false (bearerAt t i .row)) (placeStands cells (beginsAt (connectionAt t i)) (identityOf i) (bearerAt t i .row)) placeCount))
+            where
+              go : (a f s : Bool) → (a && f) && s ≡ a && (f && s)
+              go true f s = refl
+              go false f s = refl

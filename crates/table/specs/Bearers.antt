@@ -3,11 +3,9 @@ use Prim.Native.Nat.{ℕ, _+_, _-_}
 use mathlib.Core.Bool.{Bool, true, false, _&&_}
 use mathlib.Core.List.{List, []}
 use lib.Dec.{eqb, leb}
-use lib.ListN.{getD, replicate}
+use lib.ListN.{getD}
 use Rattle.laws.specs.Says.{pick}
-use Rattle.laws.specs.Index.{tab}
 use Rattle.filter.specs.declared.component.Filter.{Filter}
-use Rattle.filter.specs.Sizes.{placeCount}
 use Rattle.filter.specs.Build.{emptyFilter}
 use Rattle.table.specs.declared.bearer.Role.{Role}
 use Rattle.table.specs.declared.bearer.Role.the-variants.{Idle, Default, Dedicated}
@@ -40,8 +38,11 @@ identityOf i = i + firstIdentity
 abbrev pub noBearer : Bearer
 noBearer = record { role = Idle; transaction = 0; row = [] }
 
+abbrev pub bearerFrom : List Bearer → ℕ → Bearer
+bearerFrom bs i = getD bs i noBearer
+
 abbrev pub bearerAt : Table → ℕ → Bearer
-bearerAt t i = getD (t .bearers) i noBearer
+bearerAt t i = bearerFrom (t .bearers) i
 
 abbrev pub inRow : List Filter → ℕ → Filter
 inRow row j = getD row j emptyFilter
@@ -52,33 +53,11 @@ roleAt t i = bearerAt t i .role
 abbrev pub transactionAt : Table → ℕ → ℕ
 transactionAt t i = bearerAt t i .transaction
 
+abbrev pub filterFrom : List Bearer → ℕ → ℕ → Filter
+filterFrom bs i j = inRow (bearerFrom bs i .row) j
+
 abbrev pub filterAt : Table → ℕ → ℕ → Filter
-filterAt t i j = inRow (bearerAt t i .row) j
-
--- a table read as functions of indices, and made from them
-pub record View : Type 0 where
-  pub role : ℕ → Role
-  pub transaction : ℕ → ℕ
-  pub filter : ℕ → ℕ → Filter
-
-abbrev pub view : Table → View
-view t = record { role = roleAt t; transaction = transactionAt t; filter = filterAt t }
-
-abbrev pub bearerOf : View → ℕ → Bearer
-bearerOf v i = record { role = v .role i; transaction = v .transaction i; row = tab (v .filter i) placeCount }
-
-abbrev pub tableOf : List Bearer → Table
-tableOf bearers = record { bearers = bearers }
-
-abbrev pub build : View → Table
-build v = tableOf (tab (bearerOf v) bearerCount)
-
--- "idle bearers hold nothing"
-abbrev pub idleBearer : Bearer
-idleBearer = record { role = Idle; transaction = 0; row = replicate placeCount emptyFilter }
-
-unfoldable pub emptyTable : Table
-emptyTable = tableOf (replicate bearerCount idleBearer)
+filterAt t i j = filterFrom (t .bearers) i j
 
 -- ---- roles and connections
 abbrev pub isIdle : Role → Bool
@@ -110,5 +89,8 @@ connectionOf i (Dedicated link) = link
 abbrev pub inConnection : ℕ → ℕ → Role → Bool
 inConnection connection i role = eqb (connectionOf i role) connection
 
+abbrev pub connectionFrom : List Bearer → ℕ → ℕ
+connectionFrom bs i = connectionOf i (bearerFrom bs i .role)
+
 abbrev pub connectionAt : Table → ℕ → ℕ
-connectionAt t i = connectionOf i (roleAt t i)
+connectionAt t i = connectionFrom (t .bearers) i

@@ -1,4 +1,4 @@
--- A table as the code's types hold it: eleven bearers of sixteen places, every number in its type's range.
+-- A table as the code's types hold it: eleven bearers of sixteen places, eleven lists of 256 octets, every number in its type's range.
 use Prim.Native.Nat.{_^_, _<_}
 use Rattle.laws.specs.Lists.{Each}
 use Rattle.filter.specs.Ranges.{FilterInRange}
@@ -8,6 +8,7 @@ use Rattle.table.specs.declared.bearer.Bearer.{Bearer}
 use Rattle.table.specs.declared.bearer.Table.{Table}
 use Rattle.filter.specs.Sizes.{placeCount}
 use Rattle.table.specs.Bearers.{bearerCount}
+use Rattle.table.specs.Lists.{heldCount}
 
 abbrev pub RoleInRange : Role → Type 0
 RoleInRange Idle = Unit {0}
@@ -21,3 +22,4 @@ pub record BearerInRange (b : Bearer) : Type 0 where
 
 pub record TableInRange (t : Table) : Type 0 where
   pub bearers : Each BearerInRange bearerCount (t .bearers)
+  pub lists : Each (λ n. n < 2 ^ 8) heldCount (t .lists)

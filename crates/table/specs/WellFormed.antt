@@ -5,6 +5,7 @@ use Prim.Native.Nat.{ℕ, _≤_, _<_}
 use mathlib.Core.Bool.{Bool, true, not, _&&_, _||_}
 use mathlib.Core.List.{List, [], _∷_}
 use lib.Dec.{eqb, leb}
+use lib.ListN.{getD}
 use Rattle.laws.specs.Says.{pick}
 use Rattle.laws.specs.Index.{imp, allBelow, joined}
 use Rattle.laws.specs.Lists.{repeats}
@@ -19,7 +20,9 @@ use Rattle.table.specs.declared.bearer.Table.{Table}
 use Rattle.filter.specs.Sizes.{placeCount}
 use Rattle.filter.specs.Build.{emptyFilter}
 use Rattle.table.specs.Bearers.{firstIdentity, lastIdentity, bearerCount, lastTransaction, indexOf, identityOf, bearerAt, inRow}
-use Rattle.table.specs.Bearers.{roleAt, transactionAt, View, view, isIdle, isDefault, roleOf, connectionOf, connectionAt}
+use Rattle.table.specs.Bearers.{roleAt, transactionAt, isIdle, isDefault, roleOf, connectionOf, connectionAt}
+use Rattle.table.specs.Lists.{heldCount, cellAt, listsOf}
+use Rattle.table.specs.Tables.{View, view}
 
 -- ---- The test, one bearer at a time
 -- "dedicated and linked to an active default"
@@ -74,8 +77,20 @@ distinctAt t i = imp (isDefault (roleAt t i)) (not (repeats (connectionPrecedenc
 unfoldable pub distinctPrecedences : Table → Bool
 distinctPrecedences t = allBelow (distinctAt t) bearerCount
 
+-- the bearers
+unfoldable pub bearersFine : Table → Bool
+bearersFine t = allBelow (bearerFine t) bearerCount && distinctTransactions t && distinctPrecedences t
+
+-- ---- the lists
+-- Document 02, 7/14: "A table whose list is false is not well formed": octet n is the rule's
+unfoldable pub cellRight : Table → ℕ → Bool
+cellRight t n = eqb (getD (t .lists) n 0) (cellAt (t .bearers) n)
+
+unfoldable pub listsRight : Table → Bool
+listsRight t = allBelow (cellRight t) heldCount
+
 unfoldable pub wellFormed : Table → Bool
-wellFormed t = allBelow (bearerFine t) bearerCount && distinctTransactions t && distinctPrecedences t
+wellFormed t = bearersFine t && listsRight t
 
 -- ---- What `wellFormed` says
 abbrev pub Held : Filter → Type 0
@@ -85,7 +100,7 @@ Held f = held f ≡ true
 abbrev pub ActiveDefault : (ℕ → Role) → ℕ → Type 0
 ActiveDefault role identity = (firstIdentity ≤ identity) × (identity ≤ lastIdentity) × (role (indexOf identity) ≡ Default)
 
--- well formed, where a test of fit says what fits; the table's is `fits`
+-- the bearers well formed, where a test of fit says what fits; the table's is `fits`
 pub record WellBy (test : Filter → Header → Bool) (v : View) : Type 0 where
   -- an idle bearer has no transaction and holds nothing
   pub silent : (i : ℕ) → i < bearerCount → v .role i ≡ Idle → v .transaction i ≡ 0
@@ -104,9 +119,14 @@ pub record WellBy (test : Filter → Header → Bool) (v : View) : Type 0 where
       → connectionOf i (v .role i) ≡ connectionOf k (v .role k) → Held (v .filter i j) → Held (v .filter k l)
       → v .filter i j .precedence ≡ v .filter k l .precedence → (i ≡ k) × (j ≡ l)
 
--- `wellFormed` is true exactly of these: the theorem `well-says`
 abbrev pub Well : View → Type 0
 Well v = WellBy fits v
 
-abbrev pub WellFormed : Table → Type 0
-WellFormed t = Well (view t)
+-- every held list is the rule's
+abbrev pub RightLists : Table → Type 0
+RightLists t = t .lists ≡ listsOf (t .bearers)
+
+-- `wellFormed` is true exactly of these: the theorem `well-says`
+pub record WellFormed (t : Table) : Type 0 where
+  pub bearers : Well (view t)
+  pub lists : RightLists t

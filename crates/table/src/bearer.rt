@@ -1,7 +1,8 @@
 // Bearers and the table of them.
 ghost use mathlib.Core.Path.{_≡_};
 ghost use Prim.Native.Nat.{_-_, _≤_, _<_};
-ghost use Rattle.table.specs.Bearers.{idleBearer, emptyTable, isIdle, isDefault, isDedicated, isIdentity, indexOf, roleAt, connectionOf, inConnection, connectionAt, roleOf};
+ghost use Rattle.table.specs.Bearers.{isIdle, isDefault, isDedicated, isIdentity, indexOf, roleAt, connectionOf, inConnection, connectionAt, roleOf};
+ghost use Rattle.table.specs.Tables.{idleBearer, emptyTable};
 use filter::Filter;
 use filter::component::PLACES;
 
@@ -10,6 +11,9 @@ pub const FIRST_IDENTITY: u8 = 5;
 pub const LAST_IDENTITY: u8 = 15;
 
 pub const BEARERS: usize = 11;
+
+// The octets of the held lists, BEARERS * PRECEDENCES: one for each position of each identity's list.
+pub const HELD: usize = 2816;
 
 pub const LAST_TRANSACTION: u8 = 254;
 
@@ -27,9 +31,10 @@ pub struct Bearer {
     pub row: [Filter; PLACES],
 }
 
-// The bearer with identity FIRST_IDENTITY stands first.
+// The bearer with identity FIRST_IDENTITY stands first, and so does its list: PRECEDENCES octets, an entry each.
 pub struct Table {
     pub bearers: [Bearer; BEARERS],
+    pub lists: [u8; HELD],
 }
 
 pub fn idle_bearer() -> Bearer
@@ -47,6 +52,7 @@ pub fn empty_table() -> Table
 {
     Table {
         bearers: [idle_bearer(); BEARERS],
+        lists: [0; HELD],
     }
 }
 

@@ -1,28 +1,34 @@
 // One walk over the bearers of a table and all their filters.
 ghost use mathlib.Core.Path.{_≡_};
 ghost use mathlib.Core.Bool.{true, false, not, _&&_};
+ghost use Prim.Native.Nat.{_+_, _≤_};
 ghost use lib.ListN.{length};
-ghost use Rattle.laws.specs.Index.{allBelow};
+ghost use Rattle.laws.specs.Index.{allBelow, one, sumBelow, countBelow};
 ghost use Rattle.filter.specs.Coding.{emptyPlace};
 ghost use Rattle.filter.specs.Fittable.{placeFine};
 ghost use Rattle.filter.specs.Sizes.{placeCount, precedenceCount};
-ghost use Rattle.table.specs.Bearers.{bearerCount};
+ghost use Rattle.table.specs.Bearers.{bearerCount, lastIdentity};
+ghost use Rattle.table.specs.Lists.{isUplink, heldCount};
 ghost use Rattle.table.specs.WellFormed.{transactionFine, filterFine, rowPrecedences};
-ghost use Rattle.table.specs.inner.Walk.{linkIn, fineAt, precedenceOf, markedWith, marksAt, Told};
+ghost use Rattle.table.specs.inner.Walk.{linkIn, precedenceOf, markedWith, marksAt, Told};
+ghost use Rattle.table.specs.inner.Lists.{filterTold, placeTold, upIn, bare, bearerTold, uplinksAt};
 use crate::bearer::BEARERS;
 use crate::bearer::Bearer;
+use crate::bearer::FIRST_IDENTITY;
 use crate::bearer::LAST_TRANSACTION;
 use crate::bearer::Role;
-use crate::bearer::Table;
 use crate::bearer::connection_of;
 use crate::bearer::index_of;
 use crate::bearer::is_identity;
 use crate::bearer::is_idle;
+use crate::list::begins_at;
+use crate::list::cell_of;
 use crate::marks::bit_of;
 use crate::marks::marked_before;
 use filter::Filter;
 use filter::coding::empty_place;
 use filter::coding::held;
+use filter::coding::uplink;
 use filter::component::PLACES;
 use filter::component::PRECEDENCES;
 use filter::sample::place_fine;
@@ -49,30 +55,66 @@ fn transaction_fine(idle: bool, x: u8) -> bool
     (!idle | (x == 0)) & (x <= LAST_TRANSACTION)
 }
 
-// The filter may stand in its place, and none of its connection has its precedence so far.
-fn filter_fine(seen: &mut [u16], bit: u16, f: Filter) -> bool
-    requires { ⌜ length (now seen) ≡ precedenceCount ⌝ }
-    ensures { λ r. ⌜ Told (placeFine f) (markedWith bit (now (seen .entry)) (precedenceOf f)) r (now (seen .exit)) ⌝ }
+// Whether all was fine, and how many uplink filters were seen.
+pub(crate) struct Found {
+    pub(crate) fine: bool,
+    pub(crate) uplinks: u16,
+}
+
+fn one(up: bool) -> u16
+    ensures { λ r. ⌜ r ≡ one up ⌝ }
+{
+    if up { 1 } else { 0 }
+}
+
+// Also this filter may stand in its place, none of its connection has its precedence so far, and if it is for the uplink it stands in its list, which
+// begins at `from`.
+fn filter_fine(
+    seen: &mut [u16],
+    bit: u16,
+    lists: &[u8],
+    from: usize,
+    cell: u8,
+    f: Filter,
+    found: Found,
+) -> Found
+    requires { ⌜ (length (now seen) ≡ precedenceCount) × (from + precedenceCount ≤ length (now lists)) × (found .uplinks ≤ placeCount) ⌝ }
+    ensures { λ r. ⌜ (r .fine ≡ found .fine && filterTold bit (now (seen .entry)) (now (lists .entry)) from cell f)
+        × (now (seen .exit) ≡ markedWith bit (now (seen .entry)) (precedenceOf f) .seen) × (r .uplinks ≡ found .uplinks + one (isUplink f)) ⌝ }
 {
     let fine = place_fine(f);
     let holds = held(f);
     if holds {
-        fine & !marked_before(seen, f.precedence as usize, bit)
+        let p = f.precedence as usize;
+        let again = marked_before(seen, p, bit);
+        let up = uplink(f);
+        let there = lists[from + p];
+        Found {
+            fine: found.fine & fine & !again & (!up | (there == cell)),
+            uplinks: found.uplinks + one(up),
+        }
     } else {
-        fine
+        Found {
+            fine: found.fine & fine,
+            uplinks: found.uplinks,
+        }
     }
 }
 
-fn row_fine(seen: &mut [u16], bit: u16, b: Bearer) -> bool
-    requires { ⌜ length (now seen) ≡ precedenceCount ⌝ }
-    ensures { λ r. ⌜ Told (allBelow (filterFine false (b .row)) placeCount) (markedWith bit (now (seen .entry)) (rowPrecedences (b .row))) r (now (seen .exit)) ⌝ }
+fn row_fine(seen: &mut [u16], bit: u16, lists: &[u8], from: usize, bearer: u8, b: Bearer) -> Found
+    requires { ⌜ (length (now seen) ≡ precedenceCount) × (from + precedenceCount ≤ length (now lists)) × (bearer ≤ lastIdentity) ⌝ }
+    ensures { λ r. ⌜ Told (allBelow (placeTold (now (lists .entry)) from bearer (b .row)) placeCount) (markedWith bit (now (seen .entry)) (rowPrecedences (b .row))) (r .fine) (now (seen .exit))
+        × (r .uplinks ≡ countBelow (upIn (b .row)) placeCount) ⌝ }
 {
-    let mut all = true;
+    let mut found = Found {
+        fine: true,
+        uplinks: 0,
+    };
     for j in 0..PLACES {
         let f = b.row[j];
-        all = all & filter_fine(seen, bit, f);
+        found = filter_fine(seen, bit, lists, from, cell_of(bearer, j), f, found);
     }
-    all
+    found
 }
 
 fn four_empty(a: Filter, b: Filter, c: Filter, d: Filter) -> bool
@@ -91,24 +133,41 @@ fn holds_nothing(b: Bearer) -> bool
         && four_empty(b.row[12], b.row[13], b.row[14], b.row[15])
 }
 
-pub(crate) fn bearers_fine(t: Table, links: [bool; BEARERS]) -> bool
-    ensures { λ r. ⌜ r ≡ allBelow (fineAt links t) bearerCount && not (marksAt t bearerCount .again) ⌝ }
+// The bearers by themselves: with the lists beside them, a table would be copied once more.
+pub(crate) fn bearers_fine(
+    bearers: [Bearer; BEARERS],
+    links: [bool; BEARERS],
+    lists: &[u8],
+) -> Found
+    requires { ⌜ length (now lists) ≡ heldCount ⌝ }
+    ensures { λ r. ⌜ (r .fine ≡ allBelow (bearerTold links (now (lists .entry)) (bare bearers)) bearerCount && not (marksAt (bare bearers) bearerCount .again))
+        × (r .uplinks ≡ sumBelow (uplinksAt (bare bearers)) bearerCount) ⌝ }
 {
     let mut seen = [0; PRECEDENCES];
-    let mut all = true;
+    let mut fine = true;
+    let mut uplinks: u16 = 0;
     for i in 0..BEARERS {
-        let b = t.bearers[i];
+        let b = bearers[i];
         let role = b.role;
         let idle = is_idle(role);
-        all = all & transaction_fine(idle, b.transaction) & link_fine(links, role);
+        fine = fine & transaction_fine(idle, b.transaction) & link_fine(links, role);
         if idle {
             // Not b: that goes to `row_fine`, which indexes its row by a variable, and so is copied.
-            let c = t.bearers[i];
-            all = all & holds_nothing(c);
+            let c = bearers[i];
+            fine = fine & holds_nothing(c);
         } else {
-            let bit = bit_of(connection_of(i, role));
-            all = all & row_fine(&mut seen[..], bit, b);
+            let connection = connection_of(i, role);
+            let found = row_fine(
+                &mut seen[..],
+                bit_of(connection),
+                lists,
+                begins_at(connection),
+                i as u8 + FIRST_IDENTITY,
+                b,
+            );
+            fine = fine & found.fine;
+            uplinks += found.uplinks;
         }
     }
-    all
+    Found { fine, uplinks }
 }

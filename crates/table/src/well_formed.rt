@@ -8,6 +8,7 @@ ghost use Rattle.table.specs.inner.Walk.{defaultAt, apartFrom};
 use crate::bearer::BEARERS;
 use crate::bearer::Table;
 use crate::bearer::is_default;
+use crate::list::entries;
 use crate::walk::bearers_fine;
 
 fn defaults(t: Table) -> [bool; BEARERS]
@@ -60,5 +61,8 @@ fn distinct_transactions(xs: [u8; BEARERS]) -> bool
 pub fn well_formed(t: Table) -> bool
     ensures { λ r. ⌜ r ≡ wellFormed t ⌝ }
 {
-    bearers_fine(t, defaults(t)) & distinct_transactions(transactions(t))
+    let lists = t.lists;
+    let bearers = t.bearers;
+    let found = bearers_fine(bearers, defaults(t), &lists[..]);
+    found.fine & distinct_transactions(transactions(t)) & (entries(&lists[..]) <= found.uplinks)
 }
