@@ -18,7 +18,8 @@ use Rattle.element.specs.Numbers.{causeNumber as readNumber, Verdict, accepted,
 use Rattle.element.specs.Read.{readElement}
 use Rattle.table.specs.declared.bearer.Role.the-variants.{Dedicated}
 use Rattle.table.specs.declared.bearer.Table.{Table}
-use Rattle.table.specs.Bearers.{indexOf, transactionAt, build, isIdle, isDefault, isDedicated, roleOf}
+use Rattle.table.specs.Bearers.{indexOf, transactionAt, isIdle, isDefault, isDedicated, roleOf}
+use Rattle.table.specs.Tables.{build}
 use Rattle.table.specs.WellFormed.{wellFormed}
 use Rattle.calls.specs.Reply.{causeNumber, causeOf}
 use Rattle.calls.specs.Steps.{isOpen, closed, openedView, empties}

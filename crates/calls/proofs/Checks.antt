@@ -27,7 +27,8 @@ use Rattle.element.specs.Read.{readElement}
 use Rattle.table.specs.declared.bearer.Role.the-variants.{Idle, Dedicated}
 use Rattle.table.specs.declared.bearer.Table.{Table}
 use Rattle.table.specs.Bearers.{bearerCount, isIdentity, indexOf, noBearer, bearerAt, roleAt}
-use Rattle.table.specs.Bearers.{transactionAt, filterAt, build, isIdle, isDefault, isDedicated, roleOf}
+use Rattle.table.specs.Bearers.{transactionAt, filterAt, isIdle, isDefault, isDedicated, roleOf}
+use Rattle.table.specs.Tables.{build}
 use Rattle.table.specs.Ranges.{TableInRange}
 use Rattle.table.specs.WellFormed.{wellFormed, Held, WellFormed}
 use Rattle.table.proofs.Meaning.{range-says, well-says}

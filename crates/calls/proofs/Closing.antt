@@ -22,7 +22,8 @@ use Rattle.element.specs.Head.{create, deleteTft, operationOf, headFine}
 use Rattle.element.specs.Read.{readElement}
 use Rattle.table.specs.declared.bearer.Role.the-variants.{Dedicated}
 use Rattle.table.specs.declared.bearer.Table.{Table}
-use Rattle.table.specs.Bearers.{bearerCount, indexOf, transactionAt, build, isIdle, isDefault, isDedicated, roleOf}
+use Rattle.table.specs.Bearers.{bearerCount, indexOf, transactionAt, isIdle, isDefault, isDedicated, roleOf}
+use Rattle.table.specs.Tables.{build}
 use Rattle.table.specs.Ranges.{TableInRange}
 use Rattle.table.specs.WellFormed.{wellFormed}
 use Rattle.table.proofs.Meaning.{well-says}

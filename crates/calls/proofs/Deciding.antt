@@ -1,16 +1,16 @@
 -- What is decided of a modify message from what is seen of the bearers, and what then becomes of each, is what Modify says.
 use mathlib.Core.Path.{_≡_, refl, sym, _∙_, ap, subst}
 use mathlib.Core.Bool.{Bool, true, false, not, _&&_, _||_}
-use mathlib.Core.Logic.{⊎-elim}
+use mathlib.Core.Logic.{inl, ⊎-elim}
 use mathlib.Core.List.{List, []}
-use Prim.Native.Nat.{ℕ, _<_}
+use Prim.Native.Nat.{ℕ, _<_, _≤_}
 use native.Mathlib.Omega.{arith}
 use lib.Dec.{eqb, leb}
 use lib.ListN.{length, getD, replicate, getD-replicate}
 use Rattle.laws.specs.Says.{pick}
 use Rattle.laws.specs.Index.{anyBelow, picks, tab}
 use Rattle.laws.proofs.Index.{tab-at, any-none, any-no, any-same, picks-none, picks-same}
-use Rattle.laws.proofs.Says.{which, by-test, picked, says-eq, says-ne}
+use Rattle.laws.proofs.Says.{which, never, by-test, picked, says-eq, says-ne}
 use Rattle.laws.proofs.Tests.{or-false, and-comm}
 use Rattle.laws.proofs.Typed.{each-at}
 use Rattle.filter.specs.declared.component.Filter.{Filter}
@@ -30,9 +30,10 @@ use Rattle.laws.specs.Lists.{every}
 use Rattle.table.specs.declared.bearer.Role.{Role}
 use Rattle.table.specs.declared.bearer.Role.the-variants.{Idle, Default, Dedicated}
 use Rattle.table.specs.declared.bearer.Table.{Table}
-use Rattle.table.specs.Bearers.{bearerCount, lastTransaction, isIdentity, indexOf, identityOf, noBearer, bearerAt, inRow, roleAt, transactionAt, filterAt, View, view, build, isIdle, isDefault, isDedicated, roleOf, connectionOf, inConnection}
+use Rattle.table.specs.Bearers.{firstIdentity, lastIdentity, bearerCount, lastTransaction, isIdentity, indexOf, identityOf, noBearer, bearerAt, inRow, roleAt, transactionAt, filterAt, isIdle, isDefault, isDedicated, roleOf, connectionOf, connectionAt, inConnection}
+use Rattle.table.specs.Tables.{View, view, build}
 use Rattle.table.specs.Ranges.{TableInRange}
-use Rattle.table.specs.WellFormed.{WellFormed, wellFormed}
+use Rattle.table.specs.WellFormed.{WellFormed, RightLists}
 use Rattle.table.proofs.Meaning.{well-says, idle-says, range-says}
 use Rattle.table.proofs.Walks.{in-eleven}
 use Rattle.calls.specs.declared.reply.Answer.{Answer}
@@ -53,6 +54,7 @@ use Rattle.calls.proofs.Asked.{active-at}
 use Rattle.calls.proofs.Conflicts.{mine-loses, other-loses}
 use Rattle.calls.proofs.Checks.{closed-same, role-closed}
 use Rattle.calls.proofs.Overlays.{overlaid-placed, row-loses}
+use Rattle.calls.proofs.Applying.{AtHome}
 
 -- ---- What the reader's answer does not use is empty
 abbrev pub Unused : ReadAnswer → Element → Type 0
@@ -90,12 +92,12 @@ unused value =
 none-closes : (x : ℕ) → eqb x 0 ≡ true → (y : ℕ) → y ≡ pick (eqb y x) 0 y
 none-closes x z y = by-test (λ r. y ≡ r) (eqb y x) 0 y (λ q. says-eq y x .to q ∙ says-eq x 0 .to z) (λ _. refl)
 
-pub closed-built : (t : Table) → TableInRange t → (x : ℕ) → closed t x ≡ build (closedView t x)
+pub closed-built : (t : Table) → TableInRange t → RightLists t → (x : ℕ) → closed t x ≡ build (closedView t x)
 unfolding closed opensAt
-closed-built t ok x = go (eqb x 0) refl
+closed-built t ok right x = go (eqb x 0) refl
   where
     go : (b : Bool) → eqb x 0 ≡ b → pick b t (build (closedView t x)) ≡ build (closedView t x)
-    go true z = self-built t ok ∙ views-same (view t) (closedView t x) (λ i l. refl) (λ i l. none-closes x z (transactionAt t i)) (λ i j l m. refl)
+    go true z = self-built t ok right ∙ views-same (view t) (closedView t x) (λ i l. refl) (λ i l. none-closes x z (transactionAt t i)) (λ i j l m. refl)
     go false z = refl
 
 -- a test that an idle bearer fails is asked of the others alone
@@ -109,8 +111,8 @@ pub by-pick : (f : Decision → Outcome) (b : Bool) (d₁ d₂ : Decision) (o₁
 by-pick f true d₁ d₂ o₁ o₂ taken left = taken refl
 by-pick f false d₁ d₂ o₁ o₂ taken left = left refl
 
--- ---- One message
-module _ (t : Table) (ok : TableInRange t) (bearer x : ℕ) (value : List ℕ) where
+-- ---- One message, in a well-formed table
+module _ (t : Table) (ok : TableInRange t) (w : WellFormed t) (bearer x : ℕ) (value : List ℕ) where
   abbrev e : Element
   e = readElement value
 
@@ -173,7 +175,7 @@ module _ (t : Table) (ok : TableInRange t) (bearer x : ℕ) (value : List ℕ) w
   stops a =
       ap (λ (xs : List ℕ). outcome (fated (stopped a false)) a xs) (stays-none (stopped a false) refl)
       ∙ ap (λ (t : Table). answered t a)
-      (views-same (fatedView t k x seen (stopped a false) new taken gone) (view t) (λ i l. refl) (λ i l. transaction-at i l) (λ i j l m. refl) ∙ sym (self-built t ok))
+      (views-same (fatedView t k x seen (stopped a false) new taken gone) (view t) (λ i l. refl) (λ i l. transaction-at i l) (λ i j l m. refl) ∙ sym (self-built t ok (w .lists)))
 
   closed-at : (i : ℕ) → i < bearerCount → pick (eqb (seenIn seen i .transaction) x) 0 (seenIn seen i .transaction) ≡ pick (opensAt t x i) 0 (transactionAt t i)
   unfolding opensAt
@@ -184,7 +186,7 @@ module _ (t : Table) (ok : TableInRange t) (bearer x : ℕ) (value : List ℕ) w
   closes a =
       ap (λ (xs : List ℕ). outcome (fated (stopped a true)) a xs) (stays-none (stopped a true) refl)
       ∙ ap (λ (t : Table). answered t a)
-      (views-same (fatedView t k x seen (stopped a true) new taken gone) (closedView t x) (λ i l. refl) closed-at (λ i j l m. refl) ∙ sym (closed-built t ok x))
+      (views-same (fatedView t k x seen (stopped a true) new taken gone) (closedView t x) (λ i l. refl) closed-at (λ i j l m. refl) ∙ sym (closed-built t ok (w .lists) x))
 
   -- ---- The steps before the element is read
   pub mismatch-seen : mismatchSeen seen x ≡ mismatch t x
@@ -216,15 +218,15 @@ module _ (t : Table) (ok : TableInRange t) (bearer x : ℕ) (value : List ℕ) w
 
   pub s-transaction : (i : ℕ) → i < bearerCount
       → pick (eqb (seenIn seen i .transaction) x) 0 (seenIn seen i .transaction) ≡ transactionAt s i
-  s-transaction i l = closed-at i l ∙ sym (ap (λ (s : Table). transactionAt s i) (closed-built t ok x) ∙ transaction-built (closedView t x) i l)
+  s-transaction i l = closed-at i l ∙ sym (ap (λ (s : Table). transactionAt s i) (closed-built t ok (w .lists) x) ∙ transaction-built (closedView t x) i l)
 
-  -- a bearer of a well-formed table that is not named and is seen to lose nothing has no conflict
-  pub spared : WellFormed t → (i j : ℕ) → i < bearerCount → j < placeCount → eqb i k ≡ false → seenIn seen i .loses ≡ false
+  -- a bearer that is not named and is seen to lose nothing has no conflict
+  pub spared : (i j : ℕ) → i < bearerCount → j < placeCount → eqb i k ≡ false → seenIn seen i .loses ≡ false
       → held (filterAt t i j) && takes new (filterAt t i j .precedence) ≡ false
   unfolding held seenRow lostIn takenIn remainsIn
-  spared w i j l m n h =
+  spared i j l m n h =
       ⊎-elim
-      (λ a. ap (λ (f : Filter). held f && takes new (f .precedence)) (w .empty i j l m (idle-says (roleAt t i) .to a)) ∙ empty-free)
+      (λ a. ap (λ (f : Filter). held f && takes new (f .precedence)) (w .bearers .empty i j l m (idle-says (roleAt t i) .to a)) ∙ empty-free)
       (λ a. turned (held (filterAt t i j)) (takes new (filterAt t i j .precedence)) (sym (lost-is) ∙ any-no (lostIn taken gone (eqb i k) (bearerAt t i .row)) placeCount j m (rows a)))
       (which (isIdle (roleAt t i)))
     where
@@ -242,8 +244,8 @@ module _ (t : Table) (ok : TableInRange t) (bearer x : ℕ) (value : List ℕ) w
       turned true false h = refl
       turned false b h = refl
 
-  -- ---- Of an active bearer in a well-formed table
-  module _ (w : WellFormed t) (active : isIdle (roleOf t bearer) ≡ false) where
+  -- ---- Of an active bearer
+  module _ (active : isIdle (roleOf t bearer) ≡ false) where
     inside : k < bearerCount
     inside = let h = active-at t bearer active .0 in omega (arith, h .0, h .1)
 
@@ -334,7 +336,7 @@ module _ (t : Table) (ok : TableInRange t) (bearer x : ℕ) (value : List ℕ) w
           → overlaidIn taken gone (eqb i k || conflictSeen (seenIn seen i) c i) (eqb i k) new (bearerAt t i .row) j ≡ laidView new create s k c .filter i j
       laid-at i j l m =
           overlaid-placed new (bearerAt t i .row) create (eqb i k) taken gone j (took-at i j l m) (gone-is j m) (inConnection c i (seenIn seen i .role))
-          (seenIn seen i .loses) _ refl (named-own i) (λ n o h. spared w i j l m n h)
+          (seenIn seen i .loses) _ refl (named-own i) (λ n o h. spared i j l m n h)
           ∙ rw (of-same i l, s-row i l) refl
 
       lays : meant change ≡ layOrRelease false s bearer c new create
@@ -429,7 +431,7 @@ module _ (t : Table) (ok : TableInRange t) (bearer x : ℕ) (value : List ℕ) w
 
       leaves-to : ((j : ℕ) → j < placeCount → goneIn e j ≡ false) → meant (decidedLaid seen bearer c) ≡ answered s (Accept bearer)
       leaves-to h =
-          empties-to s (closedView t x) (closed-built t ok x) (λ i l. refl) closed-at
+          empties-to s (closedView t x) (closed-built t ok (w .lists) x) (λ i l. refl) closed-at
           (λ i j l m. ap (λ (b : Bool). pick (eqb i k && b) emptyFilter (filterAt t i j)) (h j m) ∙ ap (λ (b : Bool). pick b emptyFilter (filterAt t i j)) (and-comm (eqb i k) false))
 
     -- ---- Step 10
@@ -459,18 +461,63 @@ module _ (t : Table) (ok : TableInRange t) (bearer x : ℕ) (value : List ℕ) w
     by-means (Bare NoOperation) q u = leaves-to (u .0) (λ j m. rw (q, none-new (u .0) j m, u .1) (getD-replicate placeCount j false false m))
 
   -- ---- The message
-  named-means : wellFormed t ≡ true → meant (decidedNamed seen (e .answer) bearer value) ≡ modifyNamed s bearer value
+  named-means : meant (decidedNamed seen (e .answer) bearer value) ≡ modifyNamed s bearer value
   unfolding decidedNamed modifyNamed modifyRead
-  named-means well =
+  named-means =
       rw (role-seen bearer)
       (by-pick meant (isIdle (roleOf s bearer)) _ _ _ _ (λ _. closes _) (λ a.
       by-pick meant (headFine value) _ _ _ _ (λ _.
       by-pick meant (isDedicated (roleOf s bearer) && eqb (operationOf value) deleteTft) _ _ _ _ (λ _. closes _) (λ _.
-      by-means (well-says t ok .to well) (ap isIdle (sym (role-closed t ok x bearer)) ∙ a) (e .answer) refl (unused value))) (λ _. closes _)))
+      by-means (ap isIdle (sym (role-closed t ok x bearer)) ∙ a) (e .answer) refl (unused value))) (λ _. closes _)))
 
-  pub decided-means : meant (decided seen (wellFormed t) (e .answer) bearer x value) ≡ modifyOf t bearer x value
+  pub decided-means : meant (decided seen (e .answer) bearer x value) ≡ modifyOf t bearer x value
   unfolding decided modifyOf
-  decided-means =
-      rw mismatch-seen
-      (by-pick meant (wellFormed t) _ _ _ _ (λ well.
-      by-pick meant (mismatch t x) _ _ _ _ (λ _. stops _) (λ _. named-means well)) (λ _. stops _))
+  decided-means = rw (mismatch-seen, well-says t ok .from w) (by-pick meant (mismatch t x) _ _ _ _ (λ _. stops _) (λ _. named-means))
+
+-- ---- Whose places are written anew: where a decision changes something, it names the connection of the named bearer
+module _ (t : Table) (seen : List Seen) (bearer : ℕ) (roles : (i : ℕ) → i < bearerCount → seenIn seen i .role ≡ roleAt t i) where
+  abbrev Homes : Decision → Type 0
+  Homes d = d .change ≡ true → connectionAt t (indexOf bearer) ≡ d .connection
+
+  -- a bearer that is seen active is one of the eleven, and is seen as it stands
+  active-seen : isIdle (roleSeen seen bearer) ≡ false → (isIdentity bearer ≡ true) × (roleSeen seen bearer ≡ roleAt t (indexOf bearer))
+  unfolding roleSeen
+  active-seen = go (isIdentity bearer) refl
+    where
+      go : (b : Bool) → isIdentity bearer ≡ b → isIdle (pick b (seenIn seen (indexOf bearer) .role) Idle) ≡ false → (b ≡ true) × (pick b (seenIn seen (indexOf bearer) .role) Idle ≡ roleAt t (indexOf bearer))
+      go true h a = (refl, roles (indexOf bearer) (in-eleven bearer h))
+      go false h a = never refl a
+
+  -- the connection that the named bearer is seen to be of is the one that it is of
+  home-there : isIdle (roleSeen seen bearer) ≡ false → connectionAt t (indexOf bearer) ≡ homeOf bearer (roleSeen seen bearer)
+  home-there a =
+      let h = active-seen a in
+      sym (ap (connectionOf (indexOf bearer)) (h .1)) ∙ go (range-says bearer .to (h .0)) (roleSeen seen bearer)
+    where
+      go : (firstIdentity ≤ bearer) × (bearer ≤ lastIdentity) → (r : Role) → connectionOf (indexOf bearer) r ≡ homeOf bearer r
+      go h Idle = refl
+      go h Default = omega (arith, h .0)
+      go h (Dedicated link) = refl
+
+  -- what is laid or cut, by what the element reads as, and by the steps before
+  laid-homes : (connection : ℕ) → connectionAt t (indexOf bearer) ≡ connection → Homes (decidedLaid seen bearer connection)
+  unfolding decidedLaid
+  laid-homes connection h = picked Homes (releasedSeen seen connection) _ _ (λ q. never q refl) (λ _. h)
+
+  by-homes : isIdle (roleSeen seen bearer) ≡ false → (a : ReadAnswer) → Homes (decidedBy seen a bearer (roleSeen seen bearer))
+  by-homes a (readRefused refusal) = λ q. never q refl
+  by-homes a (Filters operation) = laid-homes _ (home-there a)
+  by-homes a Identifiers = picked Homes (isDedicated (roleSeen seen bearer) && emptiesSeen seen bearer) _ _ (λ q. never q refl) (laid-homes _ (home-there a))
+  by-homes a (Bare operation) = laid-homes _ (home-there a)
+
+  decided-homes : (said : ReadAnswer) (x : ℕ) (value : List ℕ) → Homes (decided seen said bearer x value)
+  unfolding decided decidedNamed
+  decided-homes said x value =
+      picked Homes (mismatchSeen seen x) _ _ (λ q. never q refl)
+      (by-test Homes (isIdle (roleSeen seen bearer)) _ _ (λ _ q. never q refl) (λ a.
+      picked Homes (headFine value) _ _
+      (picked Homes (isDedicated (roleSeen seen bearer) && eqb (operationOf value) deleteTft) _ _ (λ q. never q refl) (by-homes a said)) (λ q. never q refl)))
+
+  -- .. and the named bearer keeps its role
+  pub decided-home : (k : ℕ) (d : Decision) (said : ReadAnswer) (x : ℕ) (value : List ℕ) → k ≡ indexOf bearer → d ≡ decided seen said bearer x value → AtHome t k d (λ named r. r)
+  decided-home k d said x value ek ed = rw (ek, ed) (λ h. let q = decided-homes said x value h in (inl q, q))

@@ -19,7 +19,8 @@ use Rattle.table.specs.declared.bearer.Bearer.{Bearer}
 use Rattle.table.specs.declared.bearer.Table.{Table}
 use Rattle.filter.specs.Sizes.{placeCount}
 use Rattle.filter.specs.Build.{emptyFilter}
-use Rattle.table.specs.Bearers.{bearerCount, indexOf, identityOf, bearerAt, inRow, roleAt, transactionAt, filterAt, View, view, build, connectionAt}
+use Rattle.table.specs.Bearers.{bearerCount, indexOf, identityOf, bearerAt, inRow, roleAt, transactionAt, filterAt, connectionAt}
+use Rattle.table.specs.Tables.{View, view, build}
 use Rattle.table.specs.WellFormed.{WellFormed}
 use Rattle.table.proofs.Meaning.{default-says, dedicated-says}
 use Rattle.calls.specs.inner.Walk.{so}
@@ -182,7 +183,7 @@ module _ (t : Table) (bearer : ℕ) (new : List Filter) where
     loser w h i l c = go (roleAt t i) refl
       where
         go : (r : Role) → roleAt t i ≡ r → IsDedicated t i
-        go Idle e = no-held (filterAt t i (c .at)) (w .empty i (c .at) l (c .below) e) (c .holds .1 .0 .1)
+        go Idle e = no-held (filterAt t i (c .at)) (w .bearers .empty i (c .at) l (c .below) e) (c .holds .1 .0 .1)
         go Default e = absurd (says-ne releases-says h (record { at = i; below = l; holds = (e, c) }))
         go (Dedicated link) e = (link, e)
 

@@ -28,7 +28,8 @@ use Rattle.table.specs.declared.bearer.Role.the-variants.{Idle, Dedicated}
 use Rattle.table.specs.declared.bearer.Bearer.{Bearer}
 use Rattle.table.specs.declared.bearer.Table.{Table}
 use Rattle.table.specs.Bearers.{firstIdentity, bearerCount, indexOf, identityOf, noBearer, bearerAt, inRow, roleAt, transactionAt, filterAt}
-use Rattle.table.specs.Bearers.{View, view, build, isIdle, isDefault, isDedicated, roleOf, connectionOf}
+use Rattle.table.specs.Bearers.{isIdle, isDefault, isDedicated, roleOf, connectionOf}
+use Rattle.table.specs.Tables.{View, view, build}
 use Rattle.table.specs.WellFormed.{wellFormed, ActiveDefault, WellFormed}
 use Rattle.table.specs.Ranges.{TableInRange}
 use Rattle.table.proofs.Meaning.{default-of, well-says}
@@ -188,7 +189,7 @@ module _ (t : Table) (ok : TableInRange t) (connection bearer x : ℕ) {role : R
   unmatched : mismatch t x ≡ true → (i : ℕ) → i < bearerCount → WellFormed t → transactionAt t i ≡ x → transactionAt t i ≡ 0
   unmatched m i l w e =
       ⊎-elim (λ z. e ∙ says-eq x 0 .to z) (λ z. let some : x ≡ 0 → ⊥ = says-ne (says-eq x 0) z in
-      let few = w .small i l in
+      let few = w .bearers .small i l in
       never m (not-true (mismatch t x) (matched-says t x .from (inr (omega arith, omega (arith, e), record { at = i; below = l; holds = e })))))
       (which (eqb x 0))
 
@@ -283,7 +284,7 @@ module _ (t : Table) (ok : TableInRange t) (connection bearer x : ℕ) {role : R
             let idle : roleAt t i ≡ Idle = sym (closes i l .role) ∙ ap (roleAt between) q ∙ a .1 in
             inr (record {
               named = omega (arith, a .0 .0, q);
-              void = record { role = idle; transaction = w .silent i l idle; filter = λ j m. w .empty i j l m idle };
+              void = record { role = idle; transaction = w .bearers .silent i l idle; filter = λ j m. w .bearers .empty i j l m idle };
               role = opened-at i l e;
               transaction = closing-on t between (build opened) x i (transaction-built opened i l) (closes i l .transaction);
               row = row-as between opened i l (between-long i l) (λ j m. refl) ∙ closes i l .row;

@@ -14,7 +14,8 @@ use Rattle.element.specs.Read.{readElement}
 use Rattle.table.specs.declared.bearer.Role.{Role}
 use Rattle.table.specs.declared.bearer.Role.the-variants.{Dedicated}
 use Rattle.table.specs.declared.bearer.Table.{Table}
-use Rattle.table.specs.Bearers.{indexOf, inRow, roleAt, build}
+use Rattle.table.specs.Bearers.{indexOf, inRow, roleAt}
+use Rattle.table.specs.Tables.{build}
 use Rattle.table.specs.Ranges.{TableInRange}
 use Rattle.table.specs.WellFormed.{Held}
 use Rattle.calls.specs.declared.reply.Answer.the-variants.{Accept}

@@ -1,7 +1,7 @@
 -- What is decided of a dedicated activation from what is seen of the bearers, and what then becomes of each, is what Others says.
 use mathlib.Core.Path.{_≡_, refl, sym, _∙_, ap}
 use mathlib.Core.Bool.{Bool, true, false, not, _&&_, _||_}
-use mathlib.Core.Logic.{⊎-elim}
+use mathlib.Core.Logic.{inr, ⊎-elim}
 use mathlib.Core.List.{List}
 use Prim.Native.Nat.{ℕ, _<_}
 use native.Mathlib.Omega.{arith}
@@ -10,7 +10,7 @@ use lib.ListN.{length, getD}
 use Rattle.laws.specs.Says.{pick}
 use Rattle.laws.specs.Index.{picks, tab}
 use Rattle.laws.proofs.Index.{any-none, any-same, picks-same}
-use Rattle.laws.proofs.Says.{which, picked, says-eq}
+use Rattle.laws.proofs.Says.{which, never, by-test, picked, says-eq}
 use Rattle.laws.proofs.Tests.{and-comm, both}
 use Rattle.laws.proofs.Typed.{each-at}
 use Rattle.filter.specs.declared.component.Filter.{Filter}
@@ -24,10 +24,12 @@ use Rattle.element.specs.Read.{readElement}
 use Rattle.table.specs.declared.bearer.Role.{Role}
 use Rattle.table.specs.declared.bearer.Role.the-variants.{Idle, Dedicated}
 use Rattle.table.specs.declared.bearer.Table.{Table}
-use Rattle.table.specs.Bearers.{bearerCount, indexOf, identityOf, noBearer, bearerAt, inRow, roleAt, transactionAt, filterAt, View, build, isIdle, isDefault, isDedicated, roleOf, connectionOf, inConnection}
+use Rattle.table.specs.Bearers.{bearerCount, isIdentity, indexOf, identityOf, noBearer, bearerAt, inRow, roleAt, transactionAt, filterAt, isIdle, isDefault, isDedicated, roleOf, connectionOf, connectionAt, inConnection}
+use Rattle.table.specs.Tables.{View, build}
 use Rattle.table.specs.Ranges.{TableInRange}
-use Rattle.table.specs.WellFormed.{WellFormed, wellFormed}
-use Rattle.table.proofs.Meaning.{well-says}
+use Rattle.table.specs.WellFormed.{WellFormed}
+use Rattle.table.proofs.Meaning.{well-says, idle-says}
+use Rattle.table.proofs.Walks.{in-eleven}
 use Rattle.calls.specs.declared.reply.Answer.{Answer}
 use Rattle.calls.specs.declared.reply.Answer.the-variants.{Accept, Release, Reattach}
 use Rattle.calls.specs.declared.reply.Outcome.{Outcome}
@@ -39,11 +41,12 @@ use Rattle.calls.specs.Lay.{takes, placedIn, loses, losesAt, conflictOnD
 use Rattle.calls.specs.Modify.{mismatch}
 use Rattle.calls.specs.inner.Walk.{so}
 use Rattle.calls.specs.inner.Overlay.{goneIn, overlaidIn, seenAt}
-use Rattle.calls.specs.inner.Decide.{stopped, conflictSeen, seenIn, roleSeen, defaultConflict, otherSeen, releasedSeen, onlySeen, decidedLaid, followsSeen, fateOf, fatedView, availableSeen, decidedCreated, decidedOpened, decidedDedicated, openedFated}
+use Rattle.calls.specs.inner.Decide.{stopped, conflictSeen, seenIn, roleSeen, mismatchSeen, defaultConflict, otherSeen, releasedSeen, onlySeen, decidedLaid, followsSeen, fateOf, fatedView, availableSeen, decidedCreated, decidedOpened, decidedDedicated, openedFated}
 use Rattle.calls.proofs.Views.{views-same, role-built, transaction-built}
 use Rattle.calls.proofs.Conflicts.{mine-loses, other-loses}
 use Rattle.calls.proofs.Overlays.{overlaid-placed, row-loses}
-use Rattle.element.specs.Numbers.{verdictOn}
+use Rattle.calls.proofs.Applying.{AtHome}
+use Rattle.element.specs.Numbers.{Verdict, accepted, refusedFor, verdictOn}
 use Rattle.element.proofs.Theorems.{create-reads}
 use Rattle.calls.specs.declared.reply.Cause.the-variants.{TftSemantics, BearerIdentity}
 use Rattle.calls.specs.Others.{available, activatedBy, activateRead, activateNamed, activateDedicatedOf}
@@ -52,8 +55,8 @@ use Rattle.calls.proofs.Asked.{available-says}
 use Rattle.calls.proofs.Laying.{row-as}
 use Rattle.calls.proofs.Deciding.{by-role, by-pick, meant, took-at, gone-at, role-at, transaction-at, loses-at, stays-none, stops, closes, mismatch-seen, role-seen, s-role, s-row, s-transaction, spared}
 
--- ---- One message
-module _ (t : Table) (ok : TableInRange t) (bearer link x : ℕ) (value : List ℕ) where
+-- ---- One message, in a well-formed table
+module _ (t : Table) (ok : TableInRange t) (w : WellFormed t) (bearer link x : ℕ) (value : List ℕ) where
   abbrev e : Element
   e = readElement value
 
@@ -89,20 +92,20 @@ module _ (t : Table) (ok : TableInRange t) (bearer link x : ℕ) (value : List �
   opened d = outcome (fated d) (d .answer) (picks (followsSeen seen d) identityOf bearerCount)
 
   -- a decision that changes nothing opens nothing
-  unopened : (d : Decision) → d .change ≡ false → opened d ≡ meant t ok bearer x value d
+  unopened : (d : Decision) → d .change ≡ false → opened d ≡ meant t ok w bearer x value d
   unfolding fateOf
   unopened d h =
       ap (λ (t : Table). outcome t (d .answer) (picks (followsSeen seen d) identityOf bearerCount))
       (views-same (openedFated t k x seen d new taken gone link) (fatedView t k x seen d new taken gone) (λ i l. rw h refl) (λ i l. refl) (λ i j l m. refl))
 
   closed-o : (a : Answer) → opened (stopped a true) ≡ answered s a
-  closed-o a = unopened (stopped a true) refl ∙ closes t ok bearer x value a
+  closed-o a = unopened (stopped a true) refl ∙ closes t ok w bearer x value a
 
   stopped-o : (a : Answer) → opened (stopped a false) ≡ answered t a
-  stopped-o a = unopened (stopped a false) refl ∙ stops t ok bearer x value a
+  stopped-o a = unopened (stopped a false) refl ∙ stops t ok w bearer x value a
 
-  -- ---- Of an idle bearer in a well-formed table, and a create
-  module _ (w : WellFormed t) (free : Available t bearer) (creates : (j : ℕ) → j < placeCount → goneIn e j ≡ true || held (inRow new j)) where
+  -- ---- Of an idle bearer, and a create
+  module _ (free : Available t bearer) (creates : (j : ℕ) → j < placeCount → goneIn e j ≡ true || held (inRow new j)) where
     inside : k < bearerCount
     inside = omega (arith, free .0 .0, free .0 .1)
 
@@ -117,16 +120,16 @@ module _ (t : Table) (ok : TableInRange t) (bearer link x : ℕ) (value : List �
 
     row-o : (i : ℕ) → i < bearerCount → bearerAt t i .row ≡ bearerAt o i .row
     row-o i l =
-        s-row t ok bearer x value i l
-        ∙ sym (row-as s opens i l (sym (ap length (s-row t ok bearer x value i l)) ∙ each-at (ok .bearers) noBearer i l .row .count) (λ j m. refl))
+        s-row t ok w bearer x value i l
+        ∙ sym (row-as s opens i l (sym (ap length (s-row t ok w bearer x value i l)) ∙ each-at (ok .bearers) noBearer i l .row .count) (λ j m. refl))
 
     transaction-o : (i : ℕ) → i < bearerCount → pick (eqb (seenIn seen i .transaction) x) 0 (seenIn seen i .transaction) ≡ transactionAt o i
-    transaction-o i l = s-transaction t ok bearer x value i l ∙ sym (transaction-built opens i l)
+    transaction-o i l = s-transaction t ok w bearer x value i l ∙ sym (transaction-built opens i l)
 
     -- a bearer that is not the opened one has its role in all
     other-role : (i : ℕ) → i < bearerCount → eqb i k ≡ false → seenIn seen i .role ≡ roleAt o i
     other-role i l n =
-        role-at t ok bearer x value i l ∙ s-role t ok bearer x value i l ∙ sym (role-o i l ∙ ap (λ (b : Bool). pick b (Dedicated link) (roleAt s i)) n)
+        role-at t ok w bearer x value i l ∙ s-role t ok w bearer x value i l ∙ sym (role-o i l ∙ ap (λ (b : Bool). pick b (Dedicated link) (roleAt s i)) n)
 
     other-of : (i : ℕ) → i < bearerCount → eqb i k ≡ false → inConnection link i (seenIn seen i .role) ≡ ofConnection o link i
     unfolding ofConnection
@@ -134,7 +137,7 @@ module _ (t : Table) (ok : TableInRange t) (bearer link x : ℕ) (value : List �
 
     -- the opened one: it was idle, and is of the connection
     was-idle : (i : ℕ) → i < bearerCount → eqb i k ≡ true → seenIn seen i .role ≡ Idle
-    was-idle i l n = role-at t ok bearer x value i l ∙ ap (roleAt t) (is-k i n) ∙ named-idle
+    was-idle i l n = role-at t ok w bearer x value i l ∙ ap (roleAt t) (is-k i n) ∙ named-idle
 
     now-dedicated : (i : ℕ) → i < bearerCount → eqb i k ≡ true → roleAt o i ≡ Dedicated link
     now-dedicated i l n = role-o i l ∙ ap (λ (b : Bool). pick b (Dedicated link) (roleAt s i)) n
@@ -144,15 +147,15 @@ module _ (t : Table) (ok : TableInRange t) (bearer link x : ℕ) (value : List �
     now-of i l n = ap (inConnection link i) (now-dedicated i l n) ∙ says-eq link link .from refl
 
     gone-is : (j : ℕ) → j < placeCount → getD gone j false ≡ true || held (inRow new j)
-    gone-is j m = gone-at t ok bearer x value j m ∙ creates j m
+    gone-is j m = gone-at t ok w bearer x value j m ∙ creates j m
 
     other-loses-same : (i : ℕ) → i < bearerCount → eqb i k ≡ false → isIdle (roleAt t i) ≡ false → conflictSeen (seenIn seen i) link i ≡ losesAt new true o k link i
     other-loses-same i l n a = ap (λ (b : Bool). b && seenIn seen i .loses) (other-of i l n) ∙ go (ofConnection o link i) refl
       where
         row-at : seenIn seen i .loses ≡ loses new true (so (eqb i k) true) (bearerAt o i .row)
         row-at =
-            loses-at t ok bearer x value i l a
-            ∙ row-loses new (bearerAt t i .row) true (eqb i k) taken gone (λ j m. took-at t ok bearer x value i j l m) gone-is
+            loses-at t ok w bearer x value i l a
+            ∙ row-loses new (bearerAt t i .row) true (eqb i k) taken gone (λ j m. took-at t ok w bearer x value i j l m) gone-is
             ∙ ap (loses new true (so (eqb i k) true)) (row-o i l)
 
         go : (b : Bool) → ofConnection o link i ≡ b → b && seenIn seen i .loses ≡ losesAt new true o k link i
@@ -171,9 +174,9 @@ module _ (t : Table) (ok : TableInRange t) (bearer link x : ℕ) (value : List �
 
         beside : eqb i k ≡ false → test (seenIn seen i .role) && conflictSeen (seenIn seen i) link i ≡ test (roleAt o i) && losesAt new true o k link i
         beside n =
-            ap (λ (r : Role). test r && conflictSeen (seenIn seen i) link i) (role-at t ok bearer x value i l)
+            ap (λ (r : Role). test r && conflictSeen (seenIn seen i) link i) (role-at t ok w bearer x value i l)
             ∙ by-role test (conflictSeen (seenIn seen i) link i) (losesAt new true o k link i) z (roleAt t i) (other-loses-same i l n)
-            ∙ ap (λ (r : Role). test r && losesAt new true o k link i) (sym (role-at t ok bearer x value i l) ∙ other-role i l n)
+            ∙ ap (λ (r : Role). test r && losesAt new true o k link i) (sym (role-at t ok w bearer x value i l) ∙ other-role i l n)
 
     -- a create leaves nothing of the opened one's row to lose
     none-lost : losesAt new true o k link k ≡ false
@@ -206,7 +209,7 @@ module _ (t : Table) (ok : TableInRange t) (bearer link x : ℕ) (value : List �
     followers-same = picks-same (followsSeen seen change) (follows new true o k link) identityOf bearerCount (λ i l. asked-same isDedicated refl i l none-lost)
 
     laid-role : (i : ℕ) → i < bearerCount → pick ((eqb i k || conflictSeen (seenIn seen i) link i) && eqb i k) (Dedicated link) (roleAt t i) ≡ roleAt o i
-    laid-role i l = go (eqb i k) ∙ ap (pick (eqb i k) (Dedicated link)) (s-role t ok bearer x value i l) ∙ sym (role-o i l)
+    laid-role i l = go (eqb i k) ∙ ap (pick (eqb i k) (Dedicated link)) (s-role t ok w bearer x value i l) ∙ sym (role-o i l)
       where
         go : (b : Bool) → pick ((b || conflictSeen (seenIn seen i) link i) && b) (Dedicated link) (roleAt t i) ≡ pick b (Dedicated link) (roleAt t i)
         go true = refl
@@ -215,8 +218,8 @@ module _ (t : Table) (ok : TableInRange t) (bearer link x : ℕ) (value : List �
     laid-at : (i j : ℕ) → i < bearerCount → j < placeCount
         → overlaidIn taken gone (eqb i k || conflictSeen (seenIn seen i) link i) (eqb i k) new (bearerAt t i .row) j ≡ laidView new true o k link .filter i j
     laid-at i j l m =
-        overlaid-placed new (bearerAt t i .row) true (eqb i k) taken gone j (took-at t ok bearer x value i j l m) (gone-is j m) (ofConnection o link i)
-        (seenIn seen i .loses) (eqb i k || conflictSeen (seenIn seen i) link i) (⊎-elim (λ n. rw n refl) (λ n. rw (n, other-of i l n) refl) (which (eqb i k))) (now-of i l) (λ n c h. spared t ok bearer x value w i j l m n h)
+        overlaid-placed new (bearerAt t i .row) true (eqb i k) taken gone j (took-at t ok w bearer x value i j l m) (gone-is j m) (ofConnection o link i)
+        (seenIn seen i .loses) (eqb i k || conflictSeen (seenIn seen i) link i) (⊎-elim (λ n. rw n refl) (λ n. rw (n, other-of i l n) refl) (which (eqb i k))) (now-of i l) (λ n c h. spared t ok w bearer x value i j l m n h)
         ∙ ap (λ (row : List Filter). placedIn new true (so (eqb i k) (ofConnection o link i)) row j) (row-o i l)
 
     lays : opened change ≡ layOrRelease false o bearer link new true
@@ -243,14 +246,14 @@ module _ (t : Table) (ok : TableInRange t) (bearer link x : ℕ) (value : List �
     unfolding fateOf overlaidIn
     goes a =
         unopened (cuts a) refl
-        ∙ ap (λ (xs : List ℕ). outcome (build (fatedView t k x seen (cuts a) new taken gone)) a xs) (stays-none t ok bearer x value (cuts a) refl)
+        ∙ ap (λ (xs : List ℕ). outcome (build (fatedView t k x seen (cuts a) new taken gone)) a xs) (stays-none t ok w bearer x value (cuts a) refl)
         ∙ ap (λ (t : Table). answered t a)
         (views-same (fatedView t k x seen (cuts a) new taken gone) (cutView o (ofConnection o link))
-        (λ i l. cut-either Idle (roleAt t) (roleAt o) i l (λ n. ap (roleAt t) (is-k i n) ∙ named-idle) (λ n. sym (role-at t ok bearer x value i l) ∙ other-role i l n))
+        (λ i l. cut-either Idle (roleAt t) (roleAt o) i l (λ n. ap (roleAt t) (is-k i n) ∙ named-idle) (λ n. sym (role-at t ok w bearer x value i l) ∙ other-role i l n))
         (λ i l. cut-either 0 (λ i. pick (eqb (seenIn seen i .transaction) x) 0 (seenIn seen i .transaction)) (transactionAt o) i l
-        (λ n. ap (λ (y : ℕ). pick (eqb y x) 0 y) (transaction-at t ok bearer x value i l ∙ ap (transactionAt t) (is-k i n) ∙ w .silent k inside named-idle) ∙ picked (λ y. y ≡ 0) (eqb 0 x) 0 0 refl refl)
+        (λ n. ap (λ (y : ℕ). pick (eqb y x) 0 y) (transaction-at t ok w bearer x value i l ∙ ap (transactionAt t) (is-k i n) ∙ w .bearers .silent k inside named-idle) ∙ picked (λ y. y ≡ 0) (eqb 0 x) 0 0 refl refl)
         (λ n. transaction-o i l))
-        (λ i j l m. cut-either emptyFilter (λ i. filterAt t i j) (λ i. filterAt o i j) i l (λ n. ap (λ (i : ℕ). filterAt t i j) (is-k i n) ∙ w .empty k j inside m named-idle)
+        (λ i j l m. cut-either emptyFilter (λ i. filterAt t i j) (λ i. filterAt o i j) i l (λ n. ap (λ (i : ℕ). filterAt t i j) (is-k i n) ∙ w .bearers .empty k j inside m named-idle)
         (λ n. ap (λ (row : List Filter). inRow row j) (row-o i l))))
 
     home-o : link ≡ home o bearer
@@ -267,10 +270,10 @@ module _ (t : Table) (ok : TableInRange t) (bearer link x : ℕ) (value : List �
         by false = lays
 
   -- ---- By what the element reads as: a create, or a cause
-  created-means : WellFormed t → Available t bearer → operationOf value ≡ create
+  created-means : Available t bearer → operationOf value ≡ create
       → opened (decidedCreated seen (verdictOn (e .answer)) bearer link) ≡ activatedBy (verdictOn (e .answer)) s bearer link new
   unfolding goneIn
-  created-means w free q = ⊎-elim (λ c. by c (laid-means w free (λ j m. rw c refl))) (λ c. by (c .is) (closed-o (rejectFor bearer (c .refusal)))) (create-reads value q)
+  created-means free q = ⊎-elim (λ c. by c (laid-means free (λ j m. rw c refl))) (λ c. by (c .is) (closed-o (rejectFor bearer (c .refusal)))) (create-reads value q)
     where
       by : {a : ReadAnswer} → e .answer ≡ a → opened (decidedCreated seen (verdictOn a) bearer link) ≡ activatedBy (verdictOn a) s bearer link new
           → opened (decidedCreated seen (verdictOn (e .answer)) bearer link) ≡ activatedBy (verdictOn (e .answer)) s bearer link new
@@ -279,22 +282,55 @@ module _ (t : Table) (ok : TableInRange t) (bearer link x : ℕ) (value : List �
           ∙ sym (ap (λ (a : ReadAnswer). activatedBy (verdictOn a) s bearer link new) c)
 
   available-same : availableSeen seen bearer && isDefault (roleSeen seen link) ≡ available s bearer && isDefault (roleOf s link)
-  available-same = rw (role-seen t ok bearer x value bearer, role-seen t ok bearer x value link)
+  available-same = rw (role-seen t ok w bearer x value bearer, role-seen t ok w bearer x value link)
 
-  named-means : wellFormed t ≡ true → opened (decidedOpened seen (e .answer) bearer link value) ≡ activateNamed s bearer link value
+  named-means : opened (decidedOpened seen (e .answer) bearer link value) ≡ activateNamed s bearer link value
   unfolding decidedOpened activateNamed activateRead
-  named-means well =
+  named-means =
       ap (λ (b : Bool). opened (pick b (pick (headFine value) (pick (eqb (operationOf value) create) (decidedCreated seen (verdictOn (e .answer)) bearer link) (stopped (reject bearer TftSemantics) true)) (stopped (rejectHead bearer) true)) (stopped (reject bearer BearerIdentity) true))) available-same
       ∙ by-pick opened (available s bearer && isDefault (roleOf s link)) _ _ _ _ (λ a.
       by-pick opened (headFine value) _ _ _ _ (λ _.
-      by-pick opened (eqb (operationOf value) create) _ _ _ _ (λ q. created-means (well-says t ok .to well) (free (both (available s bearer) (isDefault (roleOf s link)) a .0)) (says-eq (operationOf value) create .to q)) (λ _. closed-o _)) (λ _. closed-o _)) (λ _. closed-o _)
+      by-pick opened (eqb (operationOf value) create) _ _ _ _ (λ q. created-means (free (both (available s bearer) (isDefault (roleOf s link)) a .0)) (says-eq (operationOf value) create .to q)) (λ _. closed-o _)) (λ _. closed-o _)) (λ _. closed-o _)
     where
       free : available s bearer ≡ true → Available t bearer
-      free a = let h = available-says s bearer .to a in (h .0, s-role t ok bearer x value k (omega (arith, h .0 .0, h .0 .1)) ∙ h .1)
+      free a = let h = available-says s bearer .to a in (h .0, s-role t ok w bearer x value k (omega (arith, h .0 .0, h .0 .1)) ∙ h .1)
 
-  pub opened-means : opened (decidedDedicated seen (wellFormed t) (e .answer) bearer link x value) ≡ activateDedicatedOf t bearer link x value
+  pub opened-means : opened (decidedDedicated seen (e .answer) bearer link x value) ≡ activateDedicatedOf t bearer link x value
   unfolding decidedDedicated activateDedicatedOf
-  opened-means =
-      rw (mismatch-seen t ok bearer x value)
-      (by-pick opened (wellFormed t) _ _ _ _ (λ well.
-      by-pick opened (mismatch t x) _ _ _ _ (λ _. stopped-o _) (λ _. named-means well)) (λ _. stopped-o _))
+  opened-means = rw (mismatch-seen t ok w bearer x value, well-says t ok .from w) (by-pick opened (mismatch t x) _ _ _ _ (λ _. stopped-o _) (λ _. named-means))
+
+-- ---- Whose places are written anew: where a decision changes something, it names the link, and the named bearer was idle
+module _ (t : Table) (seen : List Seen) (bearer link : ℕ) (roles : (i : ℕ) → i < bearerCount → seenIn seen i .role ≡ roleAt t i) where
+  abbrev Opens : Decision → Type 0
+  Opens d = d .change ≡ true → (connectionAt t (indexOf bearer) ≡ 0) × (link ≡ d .connection)
+
+  -- a bearer that is seen available is of no connection
+  idle-there : availableSeen seen bearer ≡ true → connectionAt t (indexOf bearer) ≡ 0
+  unfolding roleSeen
+  idle-there a = go (both (isIdentity bearer) (isIdle (roleSeen seen bearer)) a)
+    where
+      go : (isIdentity bearer ≡ true) × (isIdle (roleSeen seen bearer) ≡ true) → connectionAt t (indexOf bearer) ≡ 0
+      go h =
+          ap (connectionOf (indexOf bearer))
+          (sym (roles (indexOf bearer) (in-eleven bearer (h .0)))
+          ∙ idle-says (seenIn seen (indexOf bearer) .role) .to (sym (ap (λ (b : Bool). isIdle (pick b (seenIn seen (indexOf bearer) .role) Idle)) (h .0)) ∙ h .1))
+
+  -- by what the element reads as, and by the steps before
+  created-opens : availableSeen seen bearer ≡ true → (v : Verdict) → Opens (decidedCreated seen v bearer link)
+  unfolding decidedLaid
+  created-opens a (refusedFor refusal) = λ q. never q refl
+  created-opens a accepted = picked Opens (releasedSeen seen link) _ _ (λ q. never q refl) (λ _. (idle-there a, refl))
+
+  opened-opens : (said : ReadAnswer) (x : ℕ) (value : List ℕ) → Opens (decidedDedicated seen said bearer link x value)
+  unfolding decidedDedicated decidedOpened
+  opened-opens said x value =
+      picked Opens (mismatchSeen seen x) _ _ (λ q. never q refl)
+      (by-test Opens (availableSeen seen bearer && isDefault (roleSeen seen link)) _ _ (λ a.
+      picked Opens (headFine value) _ _
+      (picked Opens (eqb (operationOf value) create) _ _ (created-opens (both (availableSeen seen bearer) (isDefault (roleSeen seen link)) a .0) (verdictOn said)) (λ q. never q refl))
+      (λ q. never q refl)) (λ _ q. never q refl))
+
+  -- .. and the named bearer is linked to it
+  pub opened-home : (k : ℕ) (d : Decision) (said : ReadAnswer) (x : ℕ) (value : List ℕ) → k ≡ indexOf bearer → d ≡ decidedDedicated seen said bearer link x value
+      → AtHome t k d (λ named r. pick named (Dedicated link) r)
+  opened-home k d said x value ek ed = rw (ek, ed) (λ h. let q = opened-opens said x value h in (inr (q .0), q .1))

@@ -22,7 +22,8 @@ use Rattle.element.proofs.Heads.{head-refused}
 use Rattle.element.proofs.Placing.{verdict-place}
 use Rattle.table.specs.declared.bearer.Role.the-variants.{Dedicated}
 use Rattle.table.specs.declared.bearer.Table.{Table}
-use Rattle.table.specs.Bearers.{indexOf, build, isIdle, isDefault, isDedicated, roleOf}
+use Rattle.table.specs.Bearers.{indexOf, isIdle, isDefault, isDedicated, roleOf}
+use Rattle.table.specs.Tables.{build}
 use Rattle.table.specs.WellFormed.{wellFormed}
 use Rattle.calls.specs.declared.reply.Answer.the-variants.{Release, Reattach}
 use Rattle.calls.specs.declared.reply.Outcome.{Outcome}

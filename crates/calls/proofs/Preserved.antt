@@ -19,7 +19,8 @@ use Rattle.table.specs.declared.bearer.Role.the-variants.{Idle, Default, Dedica
 use Rattle.table.specs.declared.bearer.Table.{Table}
 use Rattle.filter.specs.Sizes.{placeCount}
 use Rattle.filter.specs.Build.{emptyFilter}
-use Rattle.table.specs.Bearers.{firstIdentity, lastIdentity, bearerCount, lastTransaction, isIdentity, indexOf, identityOf, inRow, roleAt, transactionAt, filterAt, View, view, build, isIdle, isDefault, roleOf, connectionOf, connectionAt}
+use Rattle.table.specs.Bearers.{firstIdentity, lastIdentity, bearerCount, lastTransaction, isIdentity, indexOf, identityOf, inRow, roleAt, transactionAt, filterAt, isIdle, isDefault, roleOf, connectionOf, connectionAt}
+use Rattle.table.specs.Tables.{View, view, build}
 use Rattle.table.specs.WellFormed.{Held, ActiveDefault, Well, WellFormed}
 use Rattle.table.proofs.Meaning.{Fine}
 use Rattle.calls.specs.inner.Walk.{so}
@@ -95,15 +96,18 @@ module _ (v u : View) (w : Well v) (less : (i : ℕ) → i < bearerCount → Les
 -- a table is well formed as the view is that it is made from
 pub well-built : (v : View) → Well v → WellFormed (build v)
 well-built v w =
-    well-less v (view (build v)) w
-    (λ i l. record { role = inl (role-built v i l); transaction = inl (transaction-built v i l); filter = λ j m. inl (filter-built v i l j m) })
-    (λ i link l a b r h d. role-built v (indexOf link) (omega arith) ∙ d)
+    record {
+      bearers = well-less v (view (build v)) w
+          (λ i l. record { role = inl (role-built v i l); transaction = inl (transaction-built v i l); filter = λ j m. inl (filter-built v i l j m) })
+          (λ i link l a b r h d. role-built v (indexOf link) (omega arith) ∙ d);
+      lists = refl;
+    }
 
 -- ---- transactions
 module _ (t : Table) (w : WellFormed t) (x : ℕ) where
   pub well-closed : Well (closedView t x)
   well-closed =
-      well-less (view t) (closedView t x) w (λ i l. record { role = inl refl; transaction = either-stands (opensAt t x i) 0 (transactionAt t i); filter = λ j m. inl refl })
+      well-less (view t) (closedView t x) (w .bearers) (λ i l. record { role = inl refl; transaction = either-stands (opensAt t x i) 0 (transactionAt t i); filter = λ j m. inl refl })
       (λ i link l a b r h d. d)
 
   pub closed-well : WellFormed (closed t x)
@@ -120,30 +124,30 @@ module _ (t : Table) (w : WellFormed t) (x : ℕ) where
     well-started =
         record {
           silent = λ i l h. silent i l h (eqb i k) refl;
-          empty = w .empty;
-          linked = w .linked;
+          empty = w .bearers .empty;
+          linked = w .bearers .linked;
           small = λ i l. small i l (eqb i k);
           single = λ i m l n z e. single i m l n (eqb i k) (eqb m k) refl refl z e;
-          zeroed = w .zeroed;
-          coded = w .coded;
-          fitted = w .fitted;
-          distinct = w .distinct;
+          zeroed = w .bearers .zeroed;
+          coded = w .bearers .coded;
+          fitted = w .bearers .fitted;
+          distinct = w .bearers .distinct;
         }
       where
         silent : (i : ℕ) → i < bearerCount → roleAt t i ≡ Idle → (b : Bool) → eqb i k ≡ b → pick b x (transactionAt t i) ≡ 0
         silent i l h true e = absurd (active (sym (ap (roleAt t) (says-eq i k .to e)) ∙ h))
-        silent i l h false e = w .silent i l h
+        silent i l h false e = w .bearers .silent i l h
 
         small : (i : ℕ) → i < bearerCount → (b : Bool) → pick b x (transactionAt t i) ≤ lastTransaction
         small i l true = few
-        small i l false = w .small i l
+        small i l false = w .bearers .small i l
 
         single : (i m : ℕ) → i < bearerCount → m < bearerCount → (b c : Bool) → eqb i k ≡ b → eqb m k ≡ c → (pick b x (transactionAt t i) ≡ 0 → ⊥)
             → pick b x (transactionAt t i) ≡ pick c x (transactionAt t m) → i ≡ m
         single i m l n true true p q z e = says-eq i k .to p ∙ sym (says-eq m k .to q)
         single i m l n true false p q z e = absurd (new m n (sym e))
         single i m l n false true p q z e = absurd (new i l e)
-        single i m l n false false p q z e = w .single i m l n z e
+        single i m l n false false p q z e = w .bearers .single i m l n z e
 
 -- no bearer has the transaction
 pub not-open : (t : Table) (x : ℕ) → anyBelow (opensAt t x) bearerCount ≡ false → (i : ℕ) → i < bearerCount → transactionAt t i ≡ x → ⊥
@@ -157,18 +161,18 @@ module _ (t : Table) (w : WellFormed t) (k : ℕ) (idle : roleAt t k ≡ Idle) w
   pub well-opened : (role : Role) → ((link : ℕ) → role ≡ Dedicated link → ActiveDefault (roleAt t) link) → Well (openedView t k role)
   well-opened role fits =
       record {
-        silent = λ i l h. w .silent i l (before i h (eqb i k) refl);
-        empty = λ i j l m h. w .empty i j l m (before i h (eqb i k) refl);
+        silent = λ i l h. w .bearers .silent i l (before i h (eqb i k) refl);
+        empty = λ i j l m h. w .bearers .empty i j l m (before i h (eqb i k) refl);
         linked = λ i link l h. let q = linked i link l (eqb i k) refl h in (q .0, q .1, other (indexOf link) (λ e. never (ap isIdle e) (ap isIdle (q .2))) ∙ q .2);
-        small = w .small;
-        single = w .single;
-        zeroed = w .zeroed;
-        coded = w .coded;
-        fitted = w .fitted;
+        small = w .bearers .small;
+        single = w .bearers .single;
+        zeroed = w .bearers .zeroed;
+        coded = w .bearers .coded;
+        fitted = w .bearers .fitted;
         distinct = λ i m j l a b c d e f g h.
-            w .distinct i m j l a b c d
-            (sym (ap (connectionOf i) (other i (λ z. no-held (filterAt t i j) (w .empty i j a c z) f)))
-            ∙ e ∙ ap (connectionOf m) (other m (λ z. no-held (filterAt t m l) (w .empty m l b d z) g))) f g h;
+            w .bearers .distinct i m j l a b c d
+            (sym (ap (connectionOf i) (other i (λ z. no-held (filterAt t i j) (w .bearers .empty i j a c z) f)))
+            ∙ e ∙ ap (connectionOf m) (other m (λ z. no-held (filterAt t m l) (w .bearers .empty m l b d z) g))) f g h;
       }
     where
       as-idle : (i : ℕ) → eqb i k ≡ true → roleAt t i ≡ Idle
@@ -184,7 +188,7 @@ module _ (t : Table) (w : WellFormed t) (k : ℕ) (idle : roleAt t k ≡ Idle) w
 
       linked : (i link : ℕ) → i < bearerCount → (b : Bool) → eqb i k ≡ b → pick (eqb i k) role (roleAt t i) ≡ Dedicated link → ActiveDefault (roleAt t) link
       linked i link l true e h = fits link (rw e at h)
-      linked i link l false e h = w .linked i link l (rw e at h)
+      linked i link l false e h = w .bearers .linked i link l (rw e at h)
 
   pub well-default : Well (openedView t k Default)
   well-default = well-opened Default (λ link e. never refl (ap isDefault e))
@@ -200,7 +204,7 @@ Along t gone = (i k : ℕ) → i < bearerCount → k < bearerCount → roleAt t 
 module _ (t : Table) (w : WellFormed t) (gone : ℕ → Bool) (along : Along t gone) where
   pub well-cut : Well (cutView t gone)
   well-cut =
-      well-less (view t) (cutView t gone) w
+      well-less (view t) (cutView t gone) (w .bearers)
       (λ i l. record { role = void i (gone i) refl; transaction = either-stands (gone i) 0 (transactionAt t i); filter = λ j m. either-stands (gone i) emptyFilter (filterAt t i j) })
       (λ i link l a b r h d. links i link l a b r d h (gone (indexOf link)) refl)
     where
@@ -255,7 +259,7 @@ module _ (t : Table) where
 pub well-deleted : (t : Table) → WellFormed t → (k : ℕ) (marks : List Bool) → Well (deletedView t k marks)
 unfolding deletedIn
 well-deleted t w k marks =
-    well-less (view t) (deletedView t k marks) w
+    well-less (view t) (deletedView t k marks) (w .bearers)
     (λ i l. record { role = inl refl; transaction = inl refl; filter = λ j m. either-stands (eqb i k && getD marks j false) emptyFilter (filterAt t i j) })
     (λ i link l a b r h d. d)
 
@@ -336,7 +340,7 @@ module _ (new : List Filter) (create : Bool) (t : Table) (k connection : ℕ) wh
     two i m j l a b c d e f g h (inl x) (inr (inl y)) = clash i m j l x y (sym e) c g h
     two i m j l a b c d e f g h (inr (inl x)) (inl y) = clash m i l j y x e d f (sym h)
     two i m j l a b c d e f g h (inr (inl x)) (inr (inl y)) =
-        w .distinct i m j l a b c d e (sym (ap held (x .is)) ∙ f) (sym (ap held (y .is)) ∙ g) (sym (ap rank (x .is)) ∙ h ∙ ap rank (y .is))
+        w .bearers .distinct i m j l a b c d e (sym (ap held (x .is)) ∙ f) (sym (ap held (y .is)) ∙ g) (sym (ap rank (x .is)) ∙ h ∙ ap rank (y .is))
     two i m j l a b c d e f g h (inl x) (inr (inr z)) = no-held (after m l) z g
     two i m j l a b c d e f g h (inr (inl x)) (inr (inr z)) = no-held (after m l) z g
     two i m j l a b c d e f g h (inr (inr z)) y = no-held (after i j) z f
@@ -345,18 +349,18 @@ module _ (new : List Filter) (create : Bool) (t : Table) (k connection : ℕ) wh
     unfolding placedIn
     fine-laid i j l m =
         ⊎-elim (λ x. subst Fine (sym (x .is)) (record { zeroed = ok .zeroed j m; coded = ok .coded j m; fitted = ok .fitted j m }))
-        (⊎-elim (λ x. subst Fine (sym (x .is)) (fine-at (view t) w i j l m)) (λ z. subst Fine (sym z) fine-empty)) (laid-cases i j)
+        (⊎-elim (λ x. subst Fine (sym (x .is)) (fine-at (view t) (w .bearers) i j l m)) (λ z. subst Fine (sym z) fine-empty)) (laid-cases i j)
 
     pub well-laid : Well (laidView new create t k connection)
     unfolding placedIn
     well-laid =
         record {
-          silent = w .silent;
+          silent = w .bearers .silent;
           empty = λ i j l m h.
-              ⊎-elim (λ x. absurd (active (sym (ap (roleAt t) (named i j x)) ∙ h))) (⊎-elim (λ x. x .is ∙ w .empty i j l m h) (λ z. z)) (laid-cases i j);
-          linked = w .linked;
-          small = w .small;
-          single = w .single;
+              ⊎-elim (λ x. absurd (active (sym (ap (roleAt t) (named i j x)) ∙ h))) (⊎-elim (λ x. x .is ∙ w .bearers .empty i j l m h) (λ z. z)) (laid-cases i j);
+          linked = w .bearers .linked;
+          small = w .bearers .small;
+          single = w .bearers .single;
           zeroed = λ i j l m. fine-laid i j l m .zeroed;
           coded = λ i j l m. fine-laid i j l m .coded;
           fitted = λ i j l m. fine-laid i j l m .fitted;

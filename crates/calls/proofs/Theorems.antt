@@ -19,7 +19,8 @@ use Rattle.element.specs.Read.{readElement}
 use Rattle.element.proofs.Theorems.{create-reads}
 use Rattle.table.specs.declared.bearer.Role.the-variants.{Dedicated}
 use Rattle.table.specs.declared.bearer.Table.{Table}
-use Rattle.table.specs.Bearers.{indexOf, transactionAt, build, isIdle, isDefault, isDedicated, roleOf, connectionAt}
+use Rattle.table.specs.Bearers.{indexOf, transactionAt, isIdle, isDefault, isDedicated, roleOf, connectionAt}
+use Rattle.table.specs.Tables.{build}
 use Rattle.table.specs.WellFormed.{wellFormed}
 use Rattle.calls.specs.declared.reply.Cause.the-variants.{Transaction}
 use Rattle.calls.specs.declared.reply.Answer.the-variants.{Release, Reattach}

@@ -5,7 +5,8 @@ use Rattle.laws.proofs.Index.{tab-at, tab-same}
 use Rattle.table.specs.declared.bearer.Bearer.{Bearer}
 use Rattle.filter.specs.Sizes.{placeCount}
 use Rattle.filter.specs.Build.{emptyFilter}
-use Rattle.table.specs.Bearers.{bearerCount, noBearer, bearerAt, inRow, roleAt, transactionAt, filterAt, View, bearerOf, tableOf, build}
+use Rattle.table.specs.Bearers.{bearerCount, noBearer, bearerAt, inRow, roleAt, transactionAt, filterAt}
+use Rattle.table.specs.Tables.{View, bearerOf, tableOf, build}
 
 module _ (v : View) (i : ℕ) (l : i < bearerCount) where
   pub bearer-built : bearerAt (build v) i ≡ bearerOf v i

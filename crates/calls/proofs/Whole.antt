@@ -8,7 +8,7 @@ use native.Mathlib.Omega.{arith}
 use lib.Dec.{eqb}
 use lib.ListN.{length, getD, replicate}
 use borrow.Author.Tests.{eqb-true, eq-eqb, eqb-false, ne-eqb, le-leb}
-use Rattle.laws.specs.Index.{anyBelow}
+use Rattle.laws.specs.Index.{anyBelow, tab}
 use Rattle.laws.specs.Lists.{every, All, Each}
 use Rattle.laws.proofs.Lists.{each-tab}
 use Rattle.laws.proofs.Loops.{every-at}
@@ -35,8 +35,11 @@ use Rattle.table.specs.declared.bearer.Role.the-variants.{Idle, Default, Dedica
 use Rattle.table.specs.declared.bearer.Table.{Table}
 use Rattle.filter.specs.Sizes.{placeCount}
 use Rattle.filter.specs.Build.{emptyFilter}
-use Rattle.table.specs.Bearers.{bearerCount, lastTransaction, indexOf, noBearer, inRow, roleAt, transactionAt, filterAt, View, view, bearerOf, build, isIdle, isDefault, isDedicated, roleOf, connectionAt}
+use Rattle.table.specs.Bearers.{bearerCount, lastTransaction, indexOf, noBearer, inRow, roleAt, transactionAt, filterAt, isIdle, isDefault, isDedicated, roleOf, connectionAt}
+use Rattle.table.specs.Tables.{View, view, bearerOf, build}
 use Rattle.table.specs.Ranges.{RoleInRange, BearerInRange, TableInRange}
+use Rattle.table.specs.Lists.{heldCount, cellAt, listsOf}
+use Rattle.table.proofs.Listing.{cell-small}
 use Rattle.table.specs.WellFormed.{wellFormed, ActiveDefault, Well}
 use Rattle.table.proofs.Meaning.{Fine, default-of, place-says, well-says}
 use Rattle.calls.specs.declared.reply.Outcome.{Outcome}
@@ -85,10 +88,12 @@ pub record ViewInRange (v : View) : Type 0 where
   pub filter : (i j : ℕ) → i < bearerCount → j < placeCount → FilterInRange (v .filter i j)
 
 pub built-in-range : (v : View) → ViewInRange v → TableInRange (build v)
+unfolding listsOf
 built-in-range v r =
     record {
       bearers = each-tab BearerInRange (bearerOf v) bearerCount (λ i l.
           record { role = r .role i l; transaction = r .transaction i l; row = each-tab FilterInRange (v .filter i) placeCount (λ j m. r .filter i j l m) });
+      lists = each-tab (λ n. n < 2 ^ 8) (cellAt (tab (bearerOf v) bearerCount)) heldCount (λ n l. cell-small (tab (bearerOf v) bearerCount) n);
     }
 
 pub view-in-range : (t : Table) → TableInRange t → ViewInRange (view t)

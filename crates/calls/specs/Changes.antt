@@ -17,7 +17,8 @@ use Rattle.table.specs.declared.bearer.Role.the-variants.{Idle, Default, Dedica
 use Rattle.table.specs.declared.bearer.Table.{Table}
 use Rattle.filter.specs.Sizes.{placeCount}
 use Rattle.filter.specs.Build.{emptyFilter}
-use Rattle.table.specs.Bearers.{bearerCount, indexOf, identityOf, bearerAt, inRow, roleAt, transactionAt, filterAt, View, view, connectionAt}
+use Rattle.table.specs.Bearers.{bearerCount, indexOf, identityOf, bearerAt, inRow, roleAt, transactionAt, filterAt, connectionAt}
+use Rattle.table.specs.Tables.{View, view}
 use Rattle.table.specs.Ranges.{TableInRange}
 use Rattle.table.specs.WellFormed.{Held, WellFormed}
 use Rattle.calls.specs.declared.reply.Cause.{Cause}

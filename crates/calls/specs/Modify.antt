@@ -15,7 +15,8 @@ use Rattle.element.specs.Head.{deleteTft, operationOf, headFine}
 use Rattle.element.specs.Read.{readElement}
 use Rattle.table.specs.declared.bearer.Table.{Table}
 use Rattle.filter.specs.Sizes.{placeCount}
-use Rattle.table.specs.Bearers.{indexOf, build, isIdle, isDedicated, roleOf}
+use Rattle.table.specs.Bearers.{indexOf, isIdle, isDedicated, roleOf}
+use Rattle.table.specs.Tables.{build}
 use Rattle.table.specs.WellFormed.{wellFormed}
 use Rattle.calls.specs.declared.reply.Cause.the-variants.{TftSemantics, BearerIdentity, Transaction}
 use Rattle.calls.specs.declared.reply.Refusal.the-variants.{NotWellFormed}

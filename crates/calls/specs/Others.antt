@@ -10,7 +10,8 @@ use Rattle.element.specs.Head.{create, operationOf, headFine}
 use Rattle.element.specs.Read.{readElement}
 use Rattle.table.specs.declared.bearer.Role.the-variants.{Default, Dedicated}
 use Rattle.table.specs.declared.bearer.Table.{Table}
-use Rattle.table.specs.Bearers.{isIdentity, indexOf, transactionAt, build, isIdle, isDefault, roleOf}
+use Rattle.table.specs.Bearers.{isIdentity, indexOf, transactionAt, isIdle, isDefault, roleOf}
+use Rattle.table.specs.Tables.{build}
 use Rattle.table.specs.WellFormed.{wellFormed}
 use Rattle.calls.specs.declared.reply.Cause.the-variants.{TftSemantics, BearerIdentity, Transaction}
 use Rattle.calls.specs.declared.reply.Refusal.the-variants.{NotOpen, NoIdentity, AlreadyOpen, NoBearer, BearerBusy}

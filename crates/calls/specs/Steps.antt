@@ -14,7 +14,8 @@ use Rattle.table.specs.declared.bearer.Table.{Table}
 use Rattle.filter.specs.Sizes.{placeCount}
 use Rattle.filter.specs.Build.{emptyFilter}
 use Rattle.table.specs.Bearers.{bearerCount, lastTransaction, indexOf, identityOf, bearerAt, inRow, roleAt, inConnection}
-use Rattle.table.specs.Bearers.{transactionAt, filterAt, View, build, roleOf, connectionAt}
+use Rattle.table.specs.Bearers.{transactionAt, filterAt, roleOf, connectionAt}
+use Rattle.table.specs.Tables.{View, build}
 
 -- ---- transactions
 unfoldable pub opensAt : Table → ℕ → ℕ → Bool

@@ -14,7 +14,9 @@ use crate::plain::decide_plain;
 use crate::plain::glance;
 use crate::plain::stands;
 use crate::plain::stepped;
+use crate::reply::Answer;
 use crate::reply::Outcome;
+use crate::reply::Refusal;
 use crate::reply::answer_with;
 use crate::seen::glance_at;
 use crate::seen::is_touched;
@@ -27,6 +29,8 @@ use table::Table;
 use table::bearer::BEARERS;
 use table::bearer::idle_bearer;
 use table::bearer::index_of;
+use table::list::only;
+use table::list::relisted;
 use table::well_formed::well_formed;
 
 pub fn activate_default(t: Table, bearer: u8) -> Outcome
@@ -57,7 +61,9 @@ fn with_role(b: Bearer, opens: bool, link: u8) -> Bearer
 pub fn activate_dedicated(t: Table, bearer: u8, link: u8, transaction: u8, value: &[u8]) -> Outcome
     ensures { λ r. ⌜ r ≡ activateDedicatedOf t bearer link transaction (now (value .entry)) ⌝ }
 {
-    let fine = well_formed(t);
+    if !well_formed(t) {
+        return answer_with(t, Answer::Refused(Refusal::NotWellFormed));
+    }
     let k = index_of(bearer);
     let e = read(value);
     let said = e.answer;
@@ -75,7 +81,7 @@ pub fn activate_dedicated(t: Table, bearer: u8, link: u8, transaction: u8, value
             seen[i] = glance_at(b);
         }
     }
-    let d = decide_dedicated(fine, seen, bearer, link, transaction, said, value);
+    let d = decide_dedicated(seen, bearer, link, transaction, said, value);
     for i in 0..BEARERS {
         let one = seen[i];
         let fate = fate_of(one, i, i == k, d, transaction);
@@ -86,6 +92,9 @@ pub fn activate_dedicated(t: Table, bearer: u8, link: u8, transaction: u8, value
             let laid = overlaid(b, fate, i == k, new, &taken[..], &gone[..]);
             s.bearers[i] = with_role(laid, fate.lay & (i == k), link);
         }
+    }
+    if d.change | d.cut {
+        s = relisted(s, only(d.connection));
     }
     Outcome {
         table: s,

@@ -13,7 +13,6 @@ use crate::reply::Answer;
 use crate::reply::Cause;
 use crate::reply::FollowUps;
 use crate::reply::Place;
-use crate::reply::Refusal;
 use crate::reply::Reply;
 use crate::reply::none_follow;
 use crate::reply::reject_for;
@@ -94,7 +93,7 @@ fn empties_seen(seen: [Seen; BEARERS], bearer: u8) -> bool
     }
 }
 
-fn home_of(role: Role, bearer: u8) -> u8
+pub(crate) fn home_of(role: Role, bearer: u8) -> u8
     ensures { λ r. ⌜ r ≡ homeOf bearer role ⌝ }
 {
     match role {
@@ -210,18 +209,14 @@ fn decide_named(seen: [Seen; BEARERS], bearer: u8, said: element::Answer, value:
 }
 
 pub(crate) fn decide(
-    fine: bool,
     seen: [Seen; BEARERS],
     bearer: u8,
     transaction: u8,
     said: element::Answer,
     value: &[u8],
 ) -> Decision
-    ensures { λ r. ⌜ r ≡ decided seen fine said bearer transaction (now (value .entry)) ⌝ }
+    ensures { λ r. ⌜ r ≡ decided seen said bearer transaction (now (value .entry)) ⌝ }
 {
-    if !fine {
-        return stop(Answer::Refused(Refusal::NotWellFormed), false);
-    }
     if mismatches(seen, transaction) {
         return stop(
             Answer::Reject(bearer, Cause::Transaction, Place::Nowhere),
@@ -276,7 +271,6 @@ fn decide_opened(
 }
 
 pub(crate) fn decide_dedicated(
-    fine: bool,
     seen: [Seen; BEARERS],
     bearer: u8,
     link: u8,
@@ -284,11 +278,8 @@ pub(crate) fn decide_dedicated(
     said: element::Answer,
     value: &[u8],
 ) -> Decision
-    ensures { λ r. ⌜ r ≡ decidedDedicated seen fine said bearer link transaction (now (value .entry)) ⌝ }
+    ensures { λ r. ⌜ r ≡ decidedDedicated seen said bearer link transaction (now (value .entry)) ⌝ }
 {
-    if !fine {
-        return stop(Answer::Refused(Refusal::NotWellFormed), false);
-    }
     if mismatches(seen, transaction) {
         return stop(
             Answer::Reject(bearer, Cause::Transaction, Place::Nowhere),

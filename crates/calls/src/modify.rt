@@ -7,7 +7,10 @@ use crate::decide::reply_of;
 use crate::overlay::gone_by;
 use crate::overlay::overlaid;
 use crate::overlay::taken_by;
+use crate::reply::Answer;
 use crate::reply::Outcome;
+use crate::reply::Refusal;
+use crate::reply::answer_with;
 use crate::seen::glance_at;
 use crate::seen::is_touched;
 use crate::seen::nothing_seen;
@@ -19,6 +22,8 @@ use table::Table;
 use table::bearer::BEARERS;
 use table::bearer::idle_bearer;
 use table::bearer::index_of;
+use table::list::only;
+use table::list::relisted;
 use table::well_formed::well_formed;
 
 pub(crate) fn does_create(operation: SetOperation) -> bool
@@ -34,7 +39,9 @@ pub(crate) fn does_create(operation: SetOperation) -> bool
 pub fn modify(t: Table, bearer: u8, transaction: u8, value: &[u8]) -> Outcome
     ensures { λ r. ⌜ r ≡ modifyOf t bearer transaction (now (value .entry)) ⌝ }
 {
-    let fine = well_formed(t);
+    if !well_formed(t) {
+        return answer_with(t, Answer::Refused(Refusal::NotWellFormed));
+    }
     let k = index_of(bearer);
     let e = read(value);
     let said = e.answer;
@@ -52,7 +59,7 @@ pub fn modify(t: Table, bearer: u8, transaction: u8, value: &[u8]) -> Outcome
             seen[i] = glance_at(b);
         }
     }
-    let d = decide(fine, seen, bearer, transaction, said, value);
+    let d = decide(seen, bearer, transaction, said, value);
     for i in 0..BEARERS {
         let one = seen[i];
         let fate = fate_of(one, i, i == k, d, transaction);
@@ -62,6 +69,9 @@ pub fn modify(t: Table, bearer: u8, transaction: u8, value: &[u8]) -> Outcome
             let b = s.bearers[i];
             s.bearers[i] = overlaid(b, fate, i == k, new, &taken[..], &gone[..]);
         }
+    }
+    if d.change | d.cut {
+        s = relisted(s, only(d.connection));
     }
     Outcome {
         table: s,

@@ -4,8 +4,9 @@ ghost use mathlib.Core.Path.{_≡_};
 ghost use Rattle.laws.specs.Says.{pick};
 ghost use Rattle.laws.specs.Index.{tab};
 ghost use Rattle.table.specs.declared.bearer.Role.the-variants.{Default};
-ghost use Rattle.table.specs.Bearers.{bearerCount, build};
-ghost use Rattle.calls.specs.inner.Plain.{glanced, dropping, stayed, opening, starting, openSeen, ownerSeen, transactionSeen, decidedDefault, decidedReject, decidedStart, decidedPlain, unmoved, turnOf, turned, steppedView};
+ghost use Rattle.table.specs.Bearers.{bearerCount};
+ghost use Rattle.calls.specs.inner.Plain.{glanced, dropping, stayed, opening, starting, openSeen, ownerSeen, transactionSeen, decidedDefault, decidedReject, decidedStart, decidedPlain, unmoved, turnOf, turned, steppedTable};
+use crate::decide::home_of;
 use crate::decide::is_available;
 use crate::decide::opens_any;
 use crate::decide::role_seen;
@@ -28,6 +29,8 @@ use table::bearer::index_of;
 use table::bearer::is_dedicated;
 use table::bearer::is_default;
 use table::bearer::is_idle;
+use table::list::only;
+use table::list::relisted;
 
 const INVALID_BEARER: u8 = 43;
 
@@ -71,7 +74,7 @@ fn drop_and_close(answer: Answer, transaction: u8, role: Role, bearer: u8) -> St
     Step {
         answer,
         index: index_of(bearer),
-        connection: bearer,
+        connection: home_of(role, bearer),
         transaction,
         closes: !(transaction == 0),
         cuts: is_default(role),
@@ -269,7 +272,7 @@ fn turned(b: Bearer, turn: Turn) -> Bearer
 }
 
 pub(crate) fn stepped(t: Table, d: Step) -> Table
-    ensures { λ r. ⌜ r ≡ build (steppedView t d) ⌝ }
+    ensures { λ r. ⌜ r ≡ steppedTable t d ⌝ }
 {
     let mut s = t;
     for i in 0..BEARERS {
@@ -282,6 +285,9 @@ pub(crate) fn stepped(t: Table, d: Step) -> Table
             let c = s.bearers[i];
             s.bearers[i] = turned(c, turn);
         }
+    }
+    if d.cuts | d.ends {
+        s = relisted(s, only(d.connection));
     }
     s
 }

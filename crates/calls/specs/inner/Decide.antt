@@ -1,4 +1,4 @@
--- How a message is worked out, part two: what is decided from what is seen of the bearers, and what becomes of each. In the order of Modify, and for
+-- How a message is worked out in a table that is well formed, part two: what is decided from what is seen of the bearers, and what becomes of each. In the order of Modify, and for
 -- dedicated activation of Others.
 use Prim.Native.Nat.{ℕ}
 use mathlib.Core.Bool.{Bool, true, false, not, _&&_, _||_}
@@ -16,11 +16,11 @@ use Rattle.element.specs.Numbers.{Verdict, accepted, refusedFor, verdictOn}
 use Rattle.table.specs.declared.bearer.Role.{Role}
 use Rattle.table.specs.declared.bearer.Role.the-variants.{Idle, Default, Dedicated}
 use Rattle.table.specs.declared.bearer.Table.{Table}
-use Rattle.table.specs.Bearers.{bearerCount, lastTransaction, isIdentity, indexOf, identityOf, bearerAt, roleAt, View, isIdle, isDefault, isDedicated, inConnection}
+use Rattle.table.specs.Bearers.{bearerCount, lastTransaction, isIdentity, indexOf, identityOf, bearerAt, roleAt, isIdle, isDefault, isDedicated, inConnection}
+use Rattle.table.specs.Tables.{View}
 use Rattle.calls.specs.declared.reply.Cause.the-variants.{TftSemantics, BearerIdentity, Transaction}
-use Rattle.calls.specs.declared.reply.Refusal.the-variants.{NotWellFormed}
 use Rattle.calls.specs.declared.reply.Answer.{Answer}
-use Rattle.calls.specs.declared.reply.Answer.the-variants.{Accept, Release, Reattach, Refused}
+use Rattle.calls.specs.declared.reply.Answer.the-variants.{Accept, Release, Reattach}
 use Rattle.calls.specs.declared.seen.Seen.{Seen}
 use Rattle.calls.specs.declared.decide.Decision.{Decision}
 use Rattle.calls.specs.declared.decide.Fate.{Fate}
@@ -92,9 +92,8 @@ module _ (seen : List Seen) where
       (pick (isDedicated (roleSeen bearer) && eqb (operationOf value) deleteTft) (stopped (reject bearer TftSemantics) true)
       (decidedBy said bearer (roleSeen bearer))) (stopped (rejectHead bearer) true))
 
-  unfoldable pub decided : Bool → ReadAnswer → ℕ → ℕ → List ℕ → Decision
-  decided fine said bearer x value =
-      pick fine (pick (mismatchSeen x) (stopped (reject bearer Transaction) false) (decidedNamed said bearer value)) (stopped (Refused NotWellFormed) false)
+  unfoldable pub decided : ReadAnswer → ℕ → ℕ → List ℕ → Decision
+  decided said bearer x value = pick (mismatchSeen x) (stopped (reject bearer Transaction) false) (decidedNamed said bearer value)
 
   -- ---- dedicated activation
   abbrev pub availableSeen : ℕ → Bool
@@ -111,9 +110,8 @@ module _ (seen : List Seen) where
       (pick (eqb (operationOf value) create) (decidedCreated (verdictOn said) bearer link) (stopped (reject bearer TftSemantics) true))
       (stopped (rejectHead bearer) true)) (stopped (reject bearer BearerIdentity) true)
 
-  unfoldable pub decidedDedicated : Bool → ReadAnswer → ℕ → ℕ → ℕ → List ℕ → Decision
-  decidedDedicated fine said bearer link x value =
-      pick fine (pick (mismatchSeen x) (stopped (reject bearer Transaction) false) (decidedOpened said bearer link value)) (stopped (Refused NotWellFormed) false)
+  unfoldable pub decidedDedicated : ReadAnswer → ℕ → ℕ → ℕ → List ℕ → Decision
+  decidedDedicated said bearer link x value = pick (mismatchSeen x) (stopped (reject bearer Transaction) false) (decidedOpened said bearer link value)
 
   -- ---- who loses a filter is told of it, where something is changed
   unfoldable pub followsSeen : Decision → ℕ → Bool

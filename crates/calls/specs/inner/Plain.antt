@@ -1,17 +1,18 @@
 -- How a call that brings no element is worked out: what is decided from a glance at the bearers, and what becomes of each. In the order of Others.
--- Nothing here is claimed of a call; `plain-means` in proofs/Plainly.antt ties it to Others.
+-- Nothing here is claimed of a call; `plain-means` and `plain-listed` in proofs/Plainly.antt tie it to Others.
 use Prim.Native.Nat.{ℕ}
 use mathlib.Core.Bool.{Bool, true, false, not, _&&_, _||_}
 use mathlib.Core.List.{List}
 use lib.Dec.{eqb, leb}
 use Rattle.laws.specs.Says.{pick}
-use Rattle.laws.specs.Index.{anyBelow, lastBelow}
+use Rattle.laws.specs.Index.{anyBelow, lastBelow, tab}
 use Rattle.filter.specs.Build.{emptyFilter}
 use Rattle.table.specs.declared.bearer.Role.{Role}
 use Rattle.table.specs.declared.bearer.Role.the-variants.{Idle, Default}
 use Rattle.table.specs.declared.bearer.Bearer.{Bearer}
 use Rattle.table.specs.declared.bearer.Table.{Table}
-use Rattle.table.specs.Bearers.{bearerCount, lastTransaction, indexOf, identityOf, bearerAt, roleAt, transactionAt, filterAt, View, isIdle, isDefault, isDedicated, inConnection}
+use Rattle.table.specs.Bearers.{bearerCount, lastTransaction, indexOf, identityOf, bearerAt, roleAt, transactionAt, filterAt, isIdle, isDefault, isDedicated, inConnection}
+use Rattle.table.specs.Tables.{View, bearerOf, onlyOf, relistedOf}
 use Rattle.calls.specs.declared.reply.Cause.the-variants.{BearerIdentity}
 use Rattle.calls.specs.declared.reply.Refusal.the-variants.{NotWellFormed, NotOpen, NoIdentity, AlreadyOpen, NoBearer, BearerBusy}
 use Rattle.calls.specs.declared.reply.Answer.{Answer}
@@ -23,7 +24,7 @@ use Rattle.calls.specs.declared.plain.Step.{Step}
 use Rattle.calls.specs.declared.plain.Turn.{Turn}
 use Rattle.calls.specs.Reply.{causeNumber, reject}
 use Rattle.calls.specs.inner.Overlay.{glancedOf}
-use Rattle.calls.specs.inner.Decide.{seenIn, roleSeen, opensSeen, availableSeen}
+use Rattle.calls.specs.inner.Decide.{homeOf, seenIn, roleSeen, opensSeen, availableSeen}
 
 abbrev pub glanced : Table → ℕ → Seen
 glanced t i = glancedOf (bearerAt t i)
@@ -35,7 +36,7 @@ dropping answer x role bearer =
     record {
       answer = answer;
       index = indexOf bearer;
-      connection = bearer;
+      connection = homeOf bearer role;
       transaction = x;
       closes = not (eqb x 0);
       cuts = isDefault role;
@@ -139,3 +140,11 @@ module _ (t : Table) (d : Step) where
         transaction = λ i. pick (turnAt i .cut) 0 (turnAt i .transaction);
         filter = λ i j. pick (turnAt i .cut) emptyFilter (filterAt t i j);
       }
+
+  -- the bearers that it leaves, with the lists of before
+  abbrev pub leftOf : Table
+  leftOf = record { bearers = tab (bearerOf steppedView) bearerCount; lists = t .lists }
+
+  -- where bearers go, the list of their connection is made anew
+  unfoldable pub steppedTable : Table
+  steppedTable = pick (d .cuts || d .ends) (relistedOf leftOf (onlyOf (d .connection))) leftOf

@@ -24,7 +24,7 @@ returns-2 c =
     let a = start .args in
     c .answer-with2 .ensures
     ∙ plain-moves (a .t) (table-in-range (a .t) _ (start .good .0)) (askDeactivate (a .bearer) (a .transaction)) (d .before .well-formed .ensures) (d .before .before .glance .ensures) (d .decide-plain .ensures)
-    (c .before .stepped .ensures)
+    (c .before .before .before .stands .ensures) (c .before .before .if1 .left) (c .before .stepped .ensures)
 
 pub deactivate-spec : {M : Type 1} → statement M
 deactivate-spec =

@@ -1,4 +1,4 @@
--- `calls::plain::stepped` meets its contract: the bearers before the index are those of the view: stored where they go or change, and left as they stand elsewhere.
+-- `calls::plain::stepped` meets its contract: the bearers before the index are those of the view: stored where they go or change, and left as they stand elsewhere; then one list is made anew, or none.
 -- Assumes nothing.
 use mathlib.Core.Logic.{⊎-elim}
 use Prim.Native.Nat.{_-_}
@@ -6,7 +6,7 @@ use Rattle.table.specs.Bearers.{bearerCount}
 use Rattle.table.proofs.Typed.{table-in-range}
 use Rattle.calls.specs.inner.Plain.{steppedView}
 use Rattle.calls.proofs.Rows.{Stored, store-start, store-done}
-use Rattle.calls.proofs.Plainly.{cut-there, turned-there, left-there}
+use Rattle.calls.proofs.Plainly.{cut-there, turned-there, left-there, relisted-there, unlisted-there}
 use borrow.Author.Needs.{needs}
 use Rattle.calls.proofs.plain.stepped.Statement.{statement}
 use Rattle.calls.proofs.plain.stepped.Tie as tie
@@ -37,9 +37,21 @@ loop-again c =
 
 returns : tie.Need-returns Inv-loop μ-loop
 returns c =
-    let l = c .before .loop in
-    let start = c .before .before in
-    store-done _ _ (l .s) (l .i) (table-in-range (start .args .t) _ (start .good .0)) (c .loop-test .left) (l .inv)
+    let test = c .before .before in
+    let over = test .before .before in
+    let l = over .before .loop in
+    let start = over .before .before in
+    let ok = table-in-range (start .args .t) _ (start .good .0) in
+    relisted-there (start .args .t) (start .args .d) (store-done _ _ (l .s) (l .i) ok (over .loop-test .left) (l .inv)) (c .before .only .ensures) (c .relisted .ensures)
+    (test .if3 .taken)
+
+returns-2 : tie.Need-returns-2 Inv-loop μ-loop
+returns-2 c =
+    let over = c .before .before in
+    let l = over .before .loop in
+    let start = over .before .before in
+    let ok = table-in-range (start .args .t) _ (start .good .0) in
+    unlisted-there (start .args .t) (start .args .d) (store-done _ _ (l .s) (l .i) ok (over .loop-test .left) (l .inv)) (c .if3 .left)
 
 pub stepped-spec : {M : Type 1} → statement M
 stepped-spec =
@@ -47,4 +59,4 @@ stepped-spec =
     (tie.spec
     Inv-loop μ-loop (λ c. store-start _ _) (λ c. search needs) (λ c. search needs) (λ c κs. search needs) (λ c κs. search needs) (λ c. search needs)
     (λ c. search needs) (λ c. search needs) (λ c. search needs) (λ c κs. search needs) (λ c. search needs) (λ c. search needs) (λ c. search needs)
-    (λ c. search needs) loop-again returns)
+    (λ c. search needs) loop-again (λ c κs. search needs) (λ c κs. search needs) returns returns-2)
