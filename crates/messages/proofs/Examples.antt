@@ -8,6 +8,8 @@ use lib.ListN.{getD, replicate}
 use Rattle.laws.specs.Index.{allBelow, anyBelow, tab, joined, pad}
 use Rattle.laws.specs.Lists.{isIn, repeats}
 use Rattle.laws.specs.Octets.{beFrom}
+use Rattle.laws.proofs.Says.{says-eq, says-all}
+use Rattle.laws.proofs.Index.{tab-at}
 use Rattle.filter.specs.Build.{excluded, added, emptyFilter}
 use Rattle.filter.specs.Coding.{held, emptyPlace}
 use Rattle.element.specs.Head.{headFine}
@@ -17,9 +19,12 @@ use Rattle.element.specs.Places.{unframedPlace, earliest, filtersPlace, placeOf
 use Rattle.element.specs.Read.{entriesOf, readValue, unplaced, readElement}
 use Rattle.table.specs.declared.bearer.Role.{Role}
 use Rattle.table.specs.declared.bearer.Role.the-variants.{Idle, Default, Dedicated}
+use Rattle.table.specs.declared.bearer.Bearer.{Bearer}
 use Rattle.table.specs.declared.bearer.Table.{Table}
-use Rattle.table.specs.Bearers.{build}
-use Rattle.table.specs.WellFormed.{filterFine, bearerFine, transactionsApart, transactionFrom, distinctTransactions, rowPrecedences, connectionPrecedences, distinctAt, distinctPrecedences, wellFormed}
+use Rattle.table.specs.Lists.{heldCount, cellAt, listsOf}
+use Rattle.table.specs.Tables.{tableOf, build}
+use Rattle.table.specs.WellFormed.{filterFine, bearerFine, transactionsApart, transactionFrom, distinctTransactions, rowPrecedences, connectionPrecedences, distinctAt, distinctPrecedences, bearersFine, cellRight, listsRight, wellFormed}
+use Rattle.table.proofs.Meaning.{built-right}
 use Rattle.calls.specs.declared.reply.Cause.{Cause}
 use Rattle.calls.specs.declared.reply.Cause.the-variants.{TftSyntax, BearerIdentity, FilterSyntax, Transaction}
 use Rattle.calls.specs.declared.reply.Place.the-variants.{At as placeAt}
@@ -191,6 +196,7 @@ Examples =
     × Handles two (message []) (answered two (Refused MessageFraming)) []
     × Handles lone (message []) (answered lone (Refused NotWellFormed)) []
 
+-- the lists of a table that is made from its bearers are right by a law; everything else is computed
 pub examples : Examples
-unfolding allBelow anyBelow tab joined pad isIn repeats held emptyPlace beFrom excluded added headFine splitOf restFits framedBy framedOf lengthOf componentOf contentsFrom contentsOf codedOf unframedPlace earliest filtersPlace placeOf entriesOf readValue unplaced readElement filterFine bearerFine transactionsApart transactionFrom distinctTransactions rowPrecedences connectionPrecedences distinctAt distinctPrecedences wellFormed opensAt isOpen closed isAt dropped modifyRead modifyNamed modifyOf activateRead activateNamed activateDedicatedOf deactivateOf rejectOf kindOf formIn elements activationStart readOf saidOf writable octetsOf writeOf requestOf acceptOf handleOf
-examples = (refl, refl, refl, refl, refl, refl, refl, refl, refl, refl, refl, refl, refl, refl, refl, refl, refl, refl, refl, refl, refl, refl, refl, refl, refl, refl, refl, refl, refl, refl, refl, refl, refl, refl, refl, refl, refl, refl, refl, refl, refl, refl, refl, refl, refl, refl, refl, refl, refl, refl, refl, refl, refl, refl, refl, refl, refl, refl, refl, refl, refl, refl, refl, refl, refl, refl, refl, refl, refl, refl, refl, refl, refl, refl, refl, refl, refl, refl)
+unfolding allBelow anyBelow tab joined pad isIn repeats held emptyPlace beFrom excluded added headFine splitOf restFits framedBy framedOf lengthOf componentOf contentsFrom contentsOf codedOf unframedPlace earliest filtersPlace placeOf entriesOf readValue unplaced readElement filterFine bearerFine transactionsApart transactionFrom distinctTransactions rowPrecedences connectionPrecedences distinctAt distinctPrecedences bearersFine wellFormed opensAt isOpen closed isAt dropped modifyRead modifyNamed modifyOf activateRead activateNamed activateDedicatedOf deactivateOf rejectOf kindOf formIn elements activationStart readOf saidOf writable octetsOf writeOf requestOf acceptOf handleOf
+examples = (refl, refl, refl, refl, refl, refl, refl, refl, refl, refl, refl, refl, refl, refl, refl, refl, refl, refl, refl, refl, refl, refl, refl, refl, refl, refl, refl, refl, refl, refl, refl, refl, refl, refl, refl, refl, refl, refl, refl, refl, refl, refl, refl, refl, refl, refl, refl, refl, refl, refl, refl, refl, refl, refl, refl, refl, refl, refl, refl, refl, refl, refl, refl, refl, rw (built-right _) refl, rw (built-right _) refl, rw (built-right _) refl, rw (built-right _) refl, rw (built-right _) refl, rw (built-right _) refl, rw (built-right _) refl, rw (built-right _) refl, rw (built-right _) refl, rw (built-right _) refl, rw (built-right _) refl, rw (built-right _) refl, rw (built-right _) refl, refl)

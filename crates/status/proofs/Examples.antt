@@ -1,18 +1,24 @@
 -- Document 02's example of a status and what goes beyond it, as a single claim about the written definitions, computed.
 -- Assumes nothing.
 use mathlib.Core.Path.{_≡_, refl}
+use mathlib.Core.Bool.{true}
 use mathlib.Core.List.{List, [], _∷_}
 use Prim.Native.Nat.{ℕ}
 use lib.ListN.{getD}
 use Rattle.laws.specs.Index.{allBelow, tab, pad, joined, walk}
 use Rattle.laws.specs.Lists.{repeats}
+use Rattle.laws.proofs.Says.{says-eq, says-all}
+use Rattle.laws.proofs.Index.{tab-at}
 use Rattle.filter.specs.Build.{emptyFilter}
 use Rattle.filter.specs.Coding.{held, emptyPlace}
 use Rattle.table.specs.declared.bearer.Role.{Role}
 use Rattle.table.specs.declared.bearer.Role.the-variants.{Idle, Default, Dedicated}
+use Rattle.table.specs.declared.bearer.Bearer.{Bearer}
 use Rattle.table.specs.declared.bearer.Table.{Table}
-use Rattle.table.specs.Bearers.{build}
-use Rattle.table.specs.WellFormed.{filterFine, bearerFine, transactionsApart, transactionFrom, distinctTransactions, rowPrecedences, connectionPrecedences, distinctAt, distinctPrecedences, wellFormed}
+use Rattle.table.specs.Lists.{heldCount, cellAt, listsOf}
+use Rattle.table.specs.Tables.{tableOf, build}
+use Rattle.table.specs.WellFormed.{filterFine, bearerFine, transactionsApart, transactionFrom, distinctTransactions, rowPrecedences, connectionPrecedences, distinctAt, distinctPrecedences, bearersFine, cellRight, listsRight, wellFormed}
+use Rattle.table.proofs.Meaning.{built-right}
 use Rattle.calls.specs.declared.reply.Answer.the-variants.{Synchronised}
 use Rattle.calls.specs.Reply.{answered}
 use Rattle.status.specs.declared.write.StatusWritten.the-variants.{Wrote, NoRoom}
@@ -52,6 +58,7 @@ Examples =
     -- "Bearers active only at the network change nothing."
     × (synchroniseOf (with three []) (0xFF ∷ 0xFF ∷ []) ≡ answered (with three []) Synchronised)
 
+-- the lists of a table that is made from its bearers are right by a law; everything else is computed
 pub examples : Examples
-unfolding allBelow tab pad joined walk repeats held emptyPlace filterFine bearerFine transactionsApart transactionFrom distinctTransactions rowPrecedences connectionPrecedences distinctAt distinctPrecedences wellFormed shownActive showing showingAt statusOf writeStatusOf goneBy synchroniseOf
-examples = (refl, refl, refl, refl, refl, refl, refl, refl)
+unfolding allBelow tab pad joined walk repeats held emptyPlace filterFine bearerFine transactionsApart transactionFrom distinctTransactions rowPrecedences connectionPrecedences distinctAt distinctPrecedences bearersFine wellFormed shownActive showing showingAt statusOf writeStatusOf goneBy synchroniseOf
+examples = (refl, refl, rw (built-right _) refl, rw (built-right _) refl, rw (built-right _) refl, rw (built-right _) refl, rw (built-right _) refl, rw (built-right _) refl)

@@ -16,9 +16,10 @@ use Rattle.table.specs.declared.bearer.Role.{Role}
 use Rattle.table.specs.declared.bearer.Role.the-variants.{Idle, Default, Dedicated}
 use Rattle.table.specs.declared.bearer.Bearer.{Bearer}
 use Rattle.table.specs.declared.bearer.Table.{Table}
-use Rattle.table.specs.Bearers.{bearerCount, indexOf, identityOf, bearerAt, inRow, roleAt, view, build, isIdle, connectionOf, connectionAt}
+use Rattle.table.specs.Bearers.{bearerCount, indexOf, identityOf, bearerAt, inRow, roleAt, isIdle, connectionOf, connectionAt}
+use Rattle.table.specs.Tables.{view, build}
 use Rattle.table.specs.Ranges.{TableInRange}
-use Rattle.table.specs.WellFormed.{wellFormed, WellFormed}
+use Rattle.table.specs.WellFormed.{wellFormed, RightLists, WellFormed}
 use Rattle.table.proofs.Meaning.{idle-says, well-says}
 use Rattle.calls.specs.declared.reply.Refusal.the-variants.{StatusLength}
 use Rattle.calls.specs.declared.reply.Answer.the-variants.{Synchronised, Refused}
@@ -195,8 +196,8 @@ module _ (t : Table) (value : List ℕ) where
         let e : bearerAt after i ≡ bearerAt t i = kept-bearer value t i l ok (ap (staysBy value (identityOf i)) r) in
         record {
           role = ap (λ (b : Bearer). b .role) e ∙ r;
-          transaction = ap (λ (b : Bearer). b .transaction) e ∙ w .silent i l r;
-          filter = λ j m. ap (λ (b : Bearer). inRow (b .row) j) e ∙ w .empty i j l m r;
+          transaction = ap (λ (b : Bearer). b .transaction) e ∙ w .bearers .silent i l r;
+          filter = λ j m. ap (λ (b : Bearer). inRow (b .row) j) e ∙ w .bearers .empty i j l m r;
         }
 
     leaves-bearer : Synchronises t value after i
@@ -228,9 +229,9 @@ module _ (t : Table) (value : List ℕ) where
       rw (synchronise-taken t value (well-says t ok .from w) e) (record { reply = refl; bearer = leaves-bearer ok w })
 
 -- ---- Nothing goes
-pub none-gone : (t : Table) → TableInRange t → (gone : ℕ → Bool) → ((i : ℕ) → i < bearerCount → gone i ≡ false) → build (cutView t gone) ≡ t
-none-gone t ok gone none =
-    views-same (cutView t gone) (view t) (λ i l. rw (none i l)) (λ i l. rw (none i l)) (λ i j l m. rw (none i l)) ∙ sym (self-built t ok)
+pub none-gone : (t : Table) → TableInRange t → RightLists t → (gone : ℕ → Bool) → ((i : ℕ) → i < bearerCount → gone i ≡ false) → build (cutView t gone) ≡ t
+none-gone t ok right gone none =
+    views-same (cutView t gone) (view t) (λ i l. rw (none i l)) (λ i l. rw (none i l)) (λ i j l m. rw (none i l)) ∙ sym (self-built t ok right)
 
 -- in one's own status every active bearer is shown, and so is its default
 module _ (t : Table) (w : WellFormed t) (i : ℕ) (l : i < bearerCount) where
@@ -238,7 +239,7 @@ module _ (t : Table) (w : WellFormed t) (i : ℕ) (l : i < bearerCount) where
   own-shown n = let q : i ≡ indexOf (identityOf i) = omega arith in status-shows t (identityOf i) .from ((omega arith, omega arith), λ r. n (ap (roleAt t) q ∙ r))
 
   default-shown : (link : ℕ) → roleAt t i ≡ Dedicated link → Shown (statusOf t) link
-  default-shown link r = let k = w .linked i link l r in status-shows t link .from ((k .0, k .1), λ z. never (ap isIdle z) (ap isIdle (k .2)))
+  default-shown link r = let k = w .bearers .linked i link l r in status-shows t link .from ((k .0, k .1), λ z. never (ap isIdle z) (ap isIdle (k .2)))
 
   own-stays : goneBy (statusOf t) t i ≡ false
   unfolding goneBy
@@ -259,7 +260,7 @@ own-status t ok buffer e =
     let k = status-written t buffer e in
     let w = well-says t ok .to (k .well) in
     rw (k .octets) (synchronise-taken t (statusOf t) (k .well) (status-long t)
-    ∙ ap (λ (s : Table). answered s Synchronised) (none-gone t ok (goneBy (statusOf t) t) (own-stays t w)))
+    ∙ ap (λ (s : Table). answered s Synchronised) (none-gone t ok (w .lists) (goneBy (statusOf t) t) (own-stays t w)))
 
 -- taking a status again changes nothing, and is answered as before
 module _ (t : Table) (value : List ℕ) where
@@ -283,7 +284,7 @@ module _ (t : Table) (value : List ℕ) where
           let s = after t value in
           ap (λ (o : Outcome). synchroniseOf (o .table) value) (synchronise-taken t value w e)
           ∙ synchronise-taken s value (well-says s (sound .inRange) .from (sound .well)) e
-          ∙ ap (λ (s : Table). answered s Synchronised) (none-gone s (sound .inRange) (goneBy value s) left-stays)
+          ∙ ap (λ (s : Table). answered s Synchronised) (none-gone s (sound .inRange) (sound .well .lists) (goneBy value s) left-stays)
           ∙ sym (synchronise-taken t value w e)
 
 -- nothing but what is shown of the identities of bearers counts: "identities 0 to 4 .. ignored on reading"
@@ -298,7 +299,7 @@ module _ (t : Table) (ok : TableInRange t) (value other : List ℕ) (long : leng
       go : (r : Role) → roleAt t i ≡ r → staysBy value (identityOf i) r ≡ staysBy other (identityOf i) r
       go Idle q = refl
       go Default q = own
-      go (Dedicated link) q = let k = w .linked i link l q in rw (own, alike link (k .0, k .1))
+      go (Dedicated link) q = let k = w .bearers .linked i link l q in rw (own, alike link (k .0, k .1))
 
   pub spare-ignored : synchroniseOf t value ≡ synchroniseOf t other
   spare-ignored =

@@ -1,3 +1,4 @@
 pub mod Value
 pub mod Write
 pub mod Take
+pub mod inner

@@ -10,7 +10,8 @@ use Rattle.laws.specs.Says.{pick}
 use Rattle.table.specs.declared.bearer.Role.{Role}
 use Rattle.table.specs.declared.bearer.Role.the-variants.{Idle, Default, Dedicated}
 use Rattle.table.specs.declared.bearer.Table.{Table}
-use Rattle.table.specs.Bearers.{bearerCount, identityOf, bearerAt, roleAt, view, build, connectionAt}
+use Rattle.table.specs.Bearers.{bearerCount, identityOf, bearerAt, roleAt, connectionAt}
+use Rattle.table.specs.Tables.{view, build}
 use Rattle.table.specs.WellFormed.{wellFormed, WellFormed}
 use Rattle.calls.specs.declared.reply.Refusal.the-variants.{StatusLength}
 use Rattle.calls.specs.declared.reply.Answer.the-variants.{Synchronised, Refused}

@@ -1,8 +1,10 @@
 // The network's status, taken.
 ghost use mathlib.Core.Path.{_≡_};
-ghost use Rattle.table.specs.Bearers.{build};
+ghost use Rattle.table.specs.Tables.{build};
+ghost use Rattle.table.specs.WellFormed.{RightLists};
 ghost use Rattle.calls.specs.Steps.{cutView};
 ghost use Rattle.status.specs.Take.{staysBy, goneBy, synchroniseOf};
+ghost use Rattle.status.specs.inner.Take.{markOf};
 use crate::value::STATUS_OCTETS;
 use crate::value::shown_active;
 use calls::Answer;
@@ -13,7 +15,11 @@ use table::Role;
 use table::Table;
 use table::bearer::BEARERS;
 use table::bearer::FIRST_IDENTITY;
+use table::bearer::connection_at;
 use table::bearer::idle_bearer;
+use table::bearer::index_of;
+use table::bearer::is_identity;
+use table::list::relisted;
 use table::well_formed::well_formed;
 
 // "a default takes its connection": a dedicated bearer stays only where its default does.
@@ -27,18 +33,33 @@ fn stays_by(value: &[u8], identity: u8, role: Role) -> bool
     }
 }
 
+// Where the list of a connection is marked; 0 where no default can have that identity.
+fn mark_of(connection: u8) -> usize
+    ensures { λ r. ⌜ r ≡ markOf connection ⌝ }
+{
+    if is_identity(connection) {
+        index_of(connection)
+    } else {
+        0
+    }
+}
+
+// Only the lists of connections that lose bearers are made anew.
 fn without_unshown(t: Table, value: &[u8]) -> Table
+    requires { ⌜ RightLists t ⌝ }
     ensures { λ r. ⌜ r ≡ build (cutView t (goneBy (now (value .entry)) t)) ⌝ }
 {
     let mut s = t;
+    let mut touched = [false; BEARERS];
     for i in 0..BEARERS {
         let b = s.bearers[i];
         let role = b.role;
         if !stays_by(value, i as u8 + FIRST_IDENTITY, role) {
+            touched[mark_of(connection_at(s, i))] = true;
             s.bearers[i] = idle_bearer();
         }
     }
-    s
+    relisted(s, touched)
 }
 
 pub fn synchronise(t: Table, value: &[u8]) -> Outcome
