@@ -1,6 +1,5 @@
-pub mod Listing
-pub mod Cells
 pub mod Firsts
 pub mod Noting
+pub mod Whys
 pub mod Theorems
 pub mod Rules

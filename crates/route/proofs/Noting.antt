@@ -1,16 +1,17 @@
--- What the walk notes: over the connection's own list, the first position by the notes is the first that fits.
+-- What the walk notes: over the connection's held list, the first position by the notes is the first that fits.
 use mathlib.Core.Path.{_≡_, refl, sym, _∙_, ap, subst}
 use mathlib.Core.Bool.{Bool, true, false, _&&_, _||_, and-assoc, or-false}
 use mathlib.Core.List.{List}
 use mathlib.Core.Logic.{⊎-elim}
-use Prim.Native.Nat.{ℕ, zero, suc, _+_, _/_, _%_, _<_, _≤_}
+use Prim.Native.Nat.{ℕ, zero, suc, _+_, _*_, _/_, _%_, _<_, _≤_}
 use native.Mathlib.Omega.{arith}
 use lib.ListN.{length, getD, set, length-set, replicate, length-replicate, getD-replicate}
-use borrow.Author.Tests.{eq-eqb, eqb-true}
+use lib.Dec.{eqb}
+use borrow.Author.Tests.{eq-eqb, eqb-true, eqb-false}
 use Rattle.laws.specs.Says.{pick}
 use Rattle.laws.specs.Index.{anyBelow, walk}
 use Rattle.laws.proofs.Index.{any-start, any-more, walk-start, walk-more, walk-keeps, walk-long, done, tab-at, stored, stored-start, stored-more, stored-skip, stored-done}
-use Rattle.laws.proofs.Says.{says-it, says-and, says-any, says-so, says-same, says-no}
+use Rattle.laws.proofs.Says.{picked, says-it, says-and, says-any, says-so, says-same, says-no}
 use Rattle.laws.proofs.Tests.{both, or-right}
 use Rattle.filter.specs.declared.component.Filter.{Filter}
 use Rattle.filter.specs.declared.packet.Header.{Header}
@@ -19,20 +20,23 @@ use Rattle.filter.specs.Sizes.{placeCount, precedenceCount}
 use Rattle.table.specs.declared.bearer.Role.the-variants.{Idle}
 use Rattle.table.specs.declared.bearer.Table.{Table}
 use Rattle.table.specs.Bearers.{firstIdentity, bearerCount, isIdentity, indexOf, identityOf, bearerAt, roleAt, inRow, filterAt, inConnection, connectionAt, isDefault, roleOf}
-use Rattle.table.proofs.Meaning.{default-says, range-says}
-use Rattle.route.specs.declared.answer.Route.{Route}
-use Rattle.route.specs.declared.answer.Route.the-variants.{Bearer, Discard}
-use Rattle.route.specs.declared.list.Entry.{Entry}
-use Rattle.route.specs.Lists.{isUplink, entryOf, nothing, entriesOf, listOf}
-use Rattle.route.specs.Positions.{Uplink}
-use Rattle.route.specs.Routes.{entryFits, firstFit, uplinkAt, hasUplink, otherwiseOf, routeOn}
-use Rattle.route.specs.inner.Walk.{cellOf, cellCount, entriesIn, putRow}
-use Rattle.route.specs.inner.Notes.{fitsAt, noteAt, notesOf, noneNoted, noteFilter, noteRow, noteBearer, entryNoted, firstBy}
-use Rattle.route.proofs.Listing.{entries-length, list-stands}
-use Rattle.route.proofs.Firsts.{entry-fits, nothing-fits, first-same}
-use Rattle.route.proofs.Cells.{kept, RowPut, row-start, row-put, row-skip, BearersPut, bearers-start, bearer-put, bearer-skip, bearers-done}
+use Rattle.table.proofs.Meaning.{default-says, default-of as active-says, range-says}
+use Rattle.table.specs.WellFormed.{WellFormed}
+use Rattle.table.specs.declared.list.Entry.{Entry}
+use Rattle.table.specs.Lists.{isUplink, entryOf, nothing, cellOf, encoded, decoded, heldAt, heldList}
+use Rattle.table.specs.Positions.{Uplink}
+use Rattle.table.proofs.Listing.{held-length, list-stands, numbered}
+use Rattle.route.specs.declared.answer.Why.{Why}
+use Rattle.route.specs.declared.answer.Why.the-variants.{Filter as byFilter, Default as byDefault, Discard}
+use Rattle.route.specs.Routes.{entryFits, uplinkAt, hasUplink}
+use Rattle.route.specs.Why.{whyNone, whyOn}
+use Rattle.route.specs.inner.Notes.{cellCount, fitsAt, noteAt, notesOf, noneNoted, noteFilter, noteRow, noteBearer, notedAt, FirstNoted, toldAt, FirstTold}
+use Rattle.route.proofs.Firsts.{entry-fits, nothing-fits, fitsIn, tells, first-told, never-told}
 
 -- ---- walks that note keep the length
+kept : {A : Type 0} (b : Bool) (ys xs : List A) → length ys ≡ length xs → length (pick b ys xs) ≡ length xs
+kept {A} b ys xs e = picked (λ (zs : List A). length zs ≡ length xs) b ys xs e refl
+
 filter-kept : (h : Header) (row : List Filter) (bearer : ℕ) (notes : List Bool) (j : ℕ) → length (noteFilter h row bearer notes j) ≡ length notes
 unfolding noteFilter
 filter-kept h row bearer notes j = kept (isUplink (inRow row j)) _ notes (length-set notes (cellOf bearer j) (fits (inRow row j) h))
@@ -44,32 +48,28 @@ bearer-kept t default h notes i =
     (walk-long (noteFilter h (bearerAt t i .row) (identityOf i)) (filter-kept h (bearerAt t i .row) (identityOf i)) notes placeCount)
 
 -- ---- the notes of a row
-module _ (h : Header) (row : List Filter) (bearer : ℕ) (before : List ℕ) (earlier : List Bool) where
-  -- the places below j are put, and noted
-  pub record RowNoted (j : ℕ) (cells : List ℕ) (fitting : List Bool) (uplink : Bool) : Type 0 where
-    pub puts : RowPut row bearer before j cells
+module _ (h : Header) (row : List Filter) (bearer : ℕ) (earlier : List Bool) where
+  -- the places below j are noted
+  pub record RowNoted (j : ℕ) (fitting : List Bool) (uplink : Bool) : Type 0 where
     pub notes : fitting ≡ walk (noteFilter h row bearer) earlier j
     pub ups : uplink ≡ anyBelow (uplinkAt row) j
 
-  pub row-noted-start : RowNoted 0 before earlier false
-  row-noted-start = record { puts = row-start row bearer before; notes = walk-start (noteFilter h row bearer) earlier; ups = any-start (uplinkAt row) }
+  pub row-noted-start : RowNoted 0 earlier false
+  row-noted-start = record { notes = walk-start (noteFilter h row bearer) earlier; ups = any-start (uplinkAt row) }
 
-  module _ (j : ℕ) {cells : List ℕ} {fitting : List Bool} {uplink : Bool} (so : RowNoted j cells fitting uplink) where
-    pub row-note : {after : List ℕ} {fit : Bool} {cell : ℕ} → isUplink (inRow row j) ≡ true → fit ≡ fits (inRow row j) h → cell ≡ cellOf bearer j
-        → entriesIn after ≡ set (entriesIn cells) (inRow row j .precedence) (entryOf bearer j) → RowNoted (j + 1) after (set fitting cell fit) true
+  module _ (j : ℕ) {fitting : List Bool} {uplink : Bool} (so : RowNoted j fitting uplink) where
+    pub row-note : {fit : Bool} → isUplink (inRow row j) ≡ true → fit ≡ fits (inRow row j) h → RowNoted (j + 1) (set fitting (cellOf bearer j) fit) true
     unfolding uplinkAt noteFilter
-    row-note up f n e =
+    row-note up f =
         record {
-          puts = row-put row bearer before j (so .puts) up e;
-          notes = walk-more (noteFilter h row bearer) earlier j fitting _ (rw (up, f, n)) (so .notes);
+          notes = walk-more (noteFilter h row bearer) earlier j fitting _ (rw (up, f)) (so .notes);
           ups = any-more (uplinkAt row) j uplink true (sym (or-right uplink _ up)) (so .ups);
         }
 
-    pub row-unnoted : isUplink (inRow row j) ≡ false → RowNoted (j + 1) cells fitting uplink
+    pub row-unnoted : isUplink (inRow row j) ≡ false → RowNoted (j + 1) fitting uplink
     unfolding uplinkAt noteFilter
     row-unnoted down =
         record {
-          puts = row-skip row bearer before j (so .puts) down;
           notes = walk-more (noteFilter h row bearer) earlier j fitting fitting (rw down) (so .notes);
           ups = any-more (uplinkAt row) j uplink uplink (rw down (sym (or-false uplink))) (so .ups);
         }
@@ -213,42 +213,37 @@ module _ (t : Table) (default : ℕ) (h : Header) where
       stored-done (noteAt t default h) noneNoted false 256 cellCount _ (length-replicate {A = Bool} cellCount false) (omega arith) (omega arith)
       (walk-keeps (noteBearer t default h) noneNoted (λ (i : ℕ) (s : List Bool). Sofar s (cellOf (identityOf i) 0)) bearerCount first-pass (λ i s l here. turn i l s here))
 
-  -- those below i are put, and noted
-  pub record Noted (i : ℕ) (cells : List ℕ) (fitting : List Bool) (found uplink : Bool) : Type 0 where
-    pub puts : BearersPut t default i cells
+  -- those below i are noted
+  pub record Noted (i : ℕ) (fitting : List Bool) (found uplink : Bool) : Type 0 where
     pub notes : fitting ≡ walk (noteBearer t default h) noneNoted i
     pub finds : found ≡ anyBelow (ownAt t default) i
     pub ups : uplink ≡ anyBelow (ownUp t default) i
 
-  pub noted-start : Noted 0 (replicate precedenceCount 0) (replicate cellCount false) false false
+  pub noted-start : Noted 0 (replicate cellCount false) false false
   unfolding noneNoted
   noted-start =
       record {
-        puts = bearers-start t default;
         notes = walk-start (noteBearer t default h) noneNoted;
         finds = any-start (ownAt t default);
         ups = any-start (ownUp t default);
       }
 
-  module _ (i : ℕ) {cells : List ℕ} {fitting : List Bool} {found uplink : Bool} (so : Noted i cells fitting found uplink) where
-    pub noted-more : {after : List ℕ} {notes : List Bool} {up own : Bool} → inConnection default i (roleAt t i) ≡ true
-        → up ≡ hasUplink (bearerAt t i .row) → entriesIn after ≡ putRow (bearerAt t i .row) (identityOf i) (entriesIn cells)
-        → notes ≡ noteRow h (bearerAt t i .row) (identityOf i) fitting → own ≡ isDefault (roleAt t i)
-        → Noted (i + 1) after notes (found || own) (uplink || (own && up))
+  module _ (i : ℕ) {fitting : List Bool} {found uplink : Bool} (so : Noted i fitting found uplink) where
+    pub noted-more : {notes : List Bool} {up own : Bool} → inConnection default i (roleAt t i) ≡ true
+        → up ≡ hasUplink (bearerAt t i .row) → notes ≡ noteRow h (bearerAt t i .row) (identityOf i) fitting → own ≡ isDefault (roleAt t i)
+        → Noted (i + 1) notes (found || own) (uplink || (own && up))
     unfolding noteBearer ownAt ownUp
-    noted-more of u e n o =
+    noted-more of u n o =
         record {
-          puts = bearer-put t default i (so .puts) of e;
           notes = walk-more (noteBearer t default h) noneNoted i fitting _ (rw of n) (so .notes);
           finds = any-more (ownAt t default) i found _ (rw (of, o)) (so .finds);
           ups = any-more (ownUp t default) i uplink _ (rw (of, o, u)) (so .ups);
         }
 
-    pub noted-skip : inConnection default i (roleAt t i) ≡ false → Noted (i + 1) cells fitting found uplink
+    pub noted-skip : inConnection default i (roleAt t i) ≡ false → Noted (i + 1) fitting found uplink
     unfolding noteBearer ownAt ownUp
     noted-skip other =
         record {
-          puts = bearer-skip t default i (so .puts) other;
           notes = walk-more (noteBearer t default h) noneNoted i fitting fitting (rw other) (so .notes);
           finds = any-more (ownAt t default) i found found (rw other (sym (or-false found))) (so .finds);
           ups = any-more (ownUp t default) i uplink uplink (rw other (sym (or-false uplink))) (so .ups);
@@ -268,40 +263,85 @@ module _ (t : Table) (default : ℕ) (h : Header) where
       notes-done : fitting ≡ notesOf t default h
       notes-done = done (walk (noteBearer t default h) noneNoted) i bearerCount fitting l m (so .notes) ∙ walked-notes
 
--- ---- over the connection's list
+-- ---- over the connection's held list
 module _ (t : Table) (default : ℕ) (h : Header) where
   -- the note at an entry's number
-  note-of : (i j : ℕ) → i < bearerCount → j < placeCount → entryNoted (notesOf t default h) (entryOf (identityOf i) j) ≡ fitsAt t default h i j
-  unfolding entryNoted notesOf
+  abbrev noteOf : Entry → Bool
+  noteOf e = getD (notesOf t default h) (encoded e) false
+
+  note-of : (i j : ℕ) → i < bearerCount → j < placeCount → noteOf (entryOf (identityOf i) j) ≡ fitsAt t default h i j
+  unfolding notesOf
   note-of i j l m = tab-at (noteAt t default h) cellCount (cellOf (identityOf i) j) false (omega arith) ∙ at-cell t default h i j l m
 
   -- that of an uplink filter of the connection tells whether it fits
-  note-tells : (i j : ℕ) → Uplink t default i j → entryNoted (notesOf t default h) (entryOf (identityOf i) j) ≡ fits (filterAt t i j) h
+  note-tells : (i j : ℕ) → Uplink t default i j → noteOf (entryOf (identityOf i) j) ≡ fits (filterAt t i j) h
   unfolding fitsAt
   note-tells i j u = note-of i j (u .bearer) (u .place) ∙ rw (eq-eqb (connectionAt t i) default (u .of), u .up)
 
   abbrev Told : Entry → Type 0
-  Told e = entryNoted (notesOf t default h) e ≡ entryFits t h e
+  Told e = noteOf e ≡ entryFits t h e
 
   nothing-told : Told nothing
-  unfolding entryNoted notesOf noteAt
+  unfolding notesOf noteAt
   nothing-told = tab-at (noteAt t default h) cellCount 0 false (omega arith) ∙ sym (nothing-fits t h)
 
-  entry-told : (p : ℕ) → p < precedenceCount → Told (getD (entriesOf t default) p nothing)
-  entry-told p l =
-      ⊎-elim (λ n. subst Told (sym (n .is)) (note-tells (n .index) (n .spot) (n .uplink) ∙ sym (entry-fits t h (n .index) (n .spot))))
-      (λ v. subst Told (sym (v .is)) nothing-told) (list-stands t default p l)
+  module _ (w : WellFormed t) where
+    entry-told : (p : ℕ) → p < precedenceCount → Told (getD (heldList t default) p nothing)
+    entry-told p l =
+        ⊎-elim (λ n. subst Told (sym (n .is)) (note-tells (n .index) (n .spot) (n .uplink) ∙ sym (entry-fits t h (n .index) (n .spot))))
+        (λ v. subst Told (sym (v .is)) nothing-told) (list-stands t w default p l)
 
-  pub noted-first : (otherwise : Route) → firstBy (entryNoted (notesOf t default h)) otherwise (entriesOf t default) ≡ firstFit t h otherwise (entriesOf t default)
-  noted-first otherwise =
-      first-same t h (entryNoted (notesOf t default h)) otherwise (entriesOf t default) (λ p l. entry-told p (omega (arith, entries-length t default)))
+    module _ (d : isIdentity default ≡ true) where
+      abbrev from : ℕ
+      from = indexOf default * precedenceCount
 
-  -- all bearers noted, the route of an active default by the notes is that by its list
-  pub noted-route : (i : ℕ) {cells : List ℕ} {fitting : List Bool} {found uplink : Bool} → Noted t default h i cells fitting found uplink → bearerCount ≤ i → i ≤ bearerCount
-      → isDefault (roleOf t default) ≡ true → (otherwise r : Route) → otherwise ≡ pick uplink Discard (Bearer default)
-      → r ≡ firstBy (entryNoted fitting) otherwise (entriesIn cells) → r ≡ routeOn t default h (listOf t default)
-  unfolding routeOn otherwiseOf
-  noted-route i {cells} {fitting} {found} {uplink} so l m d otherwise r o e =
-      let up : uplink ≡ hasUplink (bearerAt t (indexOf default) .row) = up-done t default h i so l m ∙ rw d in
-      e ∙ rw (notes-done t default h i so l m, bearers-done t default i (so .puts) l m) (noted-first otherwise)
-      ∙ ap (λ (s : Route). firstFit t h s (entriesOf t default)) (o ∙ rw up)
+      held-is : (p : ℕ) → p < precedenceCount → getD (heldList t default) p nothing ≡ decoded (getD (t .lists) (from + p) 0)
+      unfolding heldList
+      held-is p l = tab-at (heldAt t default) precedenceCount p nothing l ∙ rw d
+
+      -- the note of an octet of the held list tells whether the entry there fits
+      pub noted-tells : (p : ℕ) → p < precedenceCount → notedAt (notesOf t default h) (t .lists) from p ≡ fitsIn t h (heldList t default) p
+      noted-tells p l =
+          ap (λ (cell : ℕ). getD (notesOf t default h) cell false) (sym (numbered (getD (t .lists) (from + p) 0)) ∙ ap encoded (sym (held-is p l))) ∙ entry-told p l
+
+  -- ---- all bearers noted, what is told of an active default by the notes is what is told by its list
+  module _ (w : WellFormed t) (d : isDefault (roleOf t default) ≡ true) (i : ℕ) {fitting : List Bool} {found uplink : Bool} (so : Noted t default h i fitting found uplink)
+      (l : bearerCount ≤ i) (m : i ≤ bearerCount) (r : ℕ) (first : FirstNoted fitting (t .lists) (indexOf default * precedenceCount) r) where
+    in-range : isIdentity default ≡ true
+    in-range = let a = active-says t default .to d in range-says default .from (a .0, a .1)
+
+    fits-as : (p : ℕ) (b : Bool) → p < precedenceCount → notedAt fitting (t .lists) (indexOf default * precedenceCount) p ≡ b → fitsIn t h (heldList t default) p ≡ b
+    fits-as p b s e =
+        sym (noted-tells w in-range p s) ∙ ap (λ (notes : List Bool). notedAt notes (t .lists) (indexOf default * precedenceCount) p) (sym (notes-done t default h i so l m)) ∙ e
+
+    before : (p : ℕ) → p < r → fitsIn t h (heldList t default) p ≡ false
+    before p s = fits-as p false (omega (arith, first .last)) (first .before p s)
+
+    pub noted-filter : r < precedenceCount → (e : Entry) → e ≡ decoded (getD (t .lists) (indexOf default * precedenceCount + r) 0)
+        → byFilter (e .bearer) (e .place) r ≡ whyOn t default h (heldList t default)
+    unfolding whyOn
+    noted-filter s e is =
+        ap (tells t h r) (is ∙ sym (held-is w in-range r s))
+        ∙ (let q : r ≡ 0 + r = omega arith in ap (λ (p : ℕ). tells t h p (getD (heldList t default) r nothing)) q)
+        ∙ sym (first-told t h (whyNone t default) 0 r (heldList t default) (omega (arith, held-length t default)) (fits-as r true s (first .here s)) before)
+
+    pub noted-none : r ≡ precedenceCount → (o : Why) → o ≡ pick uplink Discard (byDefault default) → o ≡ whyOn t default h (heldList t default)
+    unfolding whyOn whyNone
+    noted-none q o is =
+        let up : uplink ≡ hasUplink (bearerAt t (indexOf default) .row) = up-done t default h i so l m ∙ rw d in
+        is ∙ ap (λ (b : Bool). pick b Discard (byDefault default)) up ∙ sym (never-told t h (whyNone t default) 0 (heldList t default) (λ p s. before p (omega (arith, held-length t default))))
+
+  -- .. either way
+  pub noted-first : WellFormed t → isDefault (roleOf t default) ≡ true → (i : ℕ) {fitting : List Bool} {found uplink : Bool} → Noted t default h i fitting found uplink
+      → bearerCount ≤ i → i ≤ bearerCount → (from : ℕ) → from ≡ indexOf default * precedenceCount → (o r : Why) → o ≡ pick uplink Discard (byDefault default)
+      → FirstTold fitting (t .lists) from o r → r ≡ whyOn t default h (heldList t default)
+  noted-first w d i {fitting} so l m from e o r is told = go (eqb (told .at) precedenceCount) refl
+    where
+      first : FirstNoted fitting (t .lists) (indexOf default * precedenceCount) (told .at)
+      first = rw e at (told .first)
+
+      go : (b : Bool) → eqb (told .at) precedenceCount ≡ b → r ≡ whyOn t default h (heldList t default)
+      go true q = told .is ∙ rw q (noted-none w d i so l m (told .at) first (eqb-true (told .at) precedenceCount q) o is)
+      go false q =
+          told .is
+          ∙ rw (q, e) (noted-filter w d i so l m (told .at) first (let n : told .at ≡ precedenceCount → ⊥ = eqb-false (told .at) precedenceCount q in omega (arith, first .last)) _ refl)

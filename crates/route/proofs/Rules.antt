@@ -8,7 +8,7 @@ use Rattle.filter.specs.declared.packet.Header.{Header}
 use Rattle.table.specs.declared.bearer.Table.{Table}
 use Rattle.table.specs.Bearers.{filterAt}
 use Rattle.route.specs.declared.answer.Route.{Route}
-use Rattle.route.specs.Positions.{Uplink}
+use Rattle.table.specs.Positions.{Uplink}
 use Rattle.route.specs.Rule.{FittingBy, RightBy, byFilter, byDefault, discarded}
 
 module _ (t : Table) (default : ℕ) (h : Header) where

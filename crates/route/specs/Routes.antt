@@ -1,4 +1,4 @@
--- The route of a header by the list, and what a call for it gives.
+-- The route of a header by the held list, and what a call for it gives.
 use Prim.Native.Nat.{ℕ}
 use mathlib.Core.Bool.{Bool, false}
 use mathlib.Core.List.{List, [], _∷_}
@@ -12,15 +12,14 @@ use Rattle.table.specs.declared.bearer.Table.{Table}
 use Rattle.filter.specs.Sizes.{placeCount}
 use Rattle.table.specs.Bearers.{indexOf, bearerAt, inRow, filterAt, isDefault, roleOf}
 use Rattle.table.specs.WellFormed.{wellFormed}
+use Rattle.table.specs.declared.list.Entry.{Entry}
+use Rattle.table.specs.Lists.{isUplink, heldList}
 use Rattle.route.specs.declared.answer.Route.{Route}
 use Rattle.route.specs.declared.answer.Route.the-variants.{Bearer, Discard}
 use Rattle.route.specs.declared.answer.Refusal.{Refusal}
 use Rattle.route.specs.declared.answer.Refusal.the-variants.{NotWellFormed, NoDefault, InvalidHeader}
 use Rattle.route.specs.declared.answer.Answer.{Answer}
 use Rattle.route.specs.declared.answer.Answer.the-variants.{Routed, Refused}
-use Rattle.route.specs.declared.list.Entry.{Entry}
-use Rattle.route.specs.declared.list.OrderedList.{OrderedList}
-use Rattle.route.specs.Lists.{isUplink, listOf}
 
 -- "Numbers given"; 0 where nothing is refused
 abbrev pub refusalNumber : Refusal → ℕ
@@ -54,12 +53,12 @@ hasUplink row = anyBelow (uplinkAt row) placeCount
 unfoldable pub otherwiseOf : Table → ℕ → Route
 otherwiseOf t default = pick (hasUplink (bearerAt t (indexOf default) .row)) Discard (Bearer default)
 
-unfoldable pub routeOn : Table → ℕ → Header → OrderedList → Route
-routeOn t default h list = firstFit t h (otherwiseOf t default) (list .entries)
+unfoldable pub routeOn : Table → ℕ → Header → List Entry → Route
+routeOn t default h list = firstFit t h (otherwiseOf t default) list
 
 -- "Route: 1, 8, 2."
 unfoldable pub routeOf : Table → ℕ → Header → Answer
 routeOf t default h =
     pick (wellFormed t)
     (pick (isDefault (roleOf t default))
-    (pick (validHeader h) (Routed (routeOn t default h (listOf t default))) (Refused InvalidHeader)) (Refused NoDefault)) (Refused NotWellFormed)
+    (pick (validHeader h) (Routed (routeOn t default h (heldList t default))) (Refused InvalidHeader)) (Refused NoDefault)) (Refused NotWellFormed)

@@ -11,10 +11,10 @@ use Rattle.table.specs.declared.bearer.Table.{Table}
 use Rattle.filter.specs.Sizes.{placeCount}
 use Rattle.table.specs.Bearers.{indexOf, identityOf, roleAt, filterAt}
 use Rattle.table.specs.WellFormed.{ActiveDefault, WellFormed}
+use Rattle.table.specs.Lists.{isUplink, precedenceAt}
+use Rattle.table.specs.Positions.{Uplink}
 use Rattle.route.specs.declared.answer.Route.{Route}
 use Rattle.route.specs.declared.answer.Route.the-variants.{Bearer, Discard}
-use Rattle.route.specs.Lists.{isUplink, precedenceAt}
-use Rattle.route.specs.Positions.{Uplink}
 
 -- an uplink filter of the default bearer itself
 abbrev pub OwnUplink : Table → ℕ → ℕ → Type 0
@@ -44,6 +44,9 @@ module _ (test : Filter → Header → Bool) (t : Table) where
 -- ---- the rule as it is: what fits, `fits` says
 abbrev pub Fitting : Table → ℕ → Header → ℕ → ℕ → Type 0
 Fitting t default h i j = FittingBy fits t default h i j
+
+abbrev pub Least : Table → ℕ → Header → ℕ → ℕ → Type 0
+Least t default h i j = LeastBy fits t default h i j
 
 abbrev pub NoneFits : Table → ℕ → Header → Type 0
 NoneFits t default h = NoneFitsBy fits t default h

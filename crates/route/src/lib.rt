@@ -1,11 +1,10 @@
-// The bearer of an uplink packet: the ordered list of a connection, and the route of a header.
+// The bearer of an uplink packet by the held list of its connection, and why it is that one.
 pub mod answer;
 pub mod choose;
-pub mod list;
 mod notes;
+pub mod why;
 
 pub use answer::Answer;
 pub use answer::Refusal;
 pub use answer::Route;
-pub use list::Entry;
-pub use list::OrderedList;
+pub use answer::Why;
