@@ -75,7 +75,10 @@ use Rattle.messages.proofs.Carried.{carried}
 use Rattle.route.specs.declared.answer.Answer.{Answer as RouteAnswer}
 use Rattle.route.specs.declared.answer.Answer.the-variants.{Routed, Refused as routeRefused}
 use Rattle.route.specs.declared.answer.Refusal.the-variants.{NotWellFormed, NoDefault, InvalidHeader}
+use Rattle.route.specs.declared.answer.Why.{Why}
 use Rattle.route.specs.Routes.{numberOf as routeNumber, routeOf}
+use Rattle.route.specs.Why.{whyNumber, whyOf, routedBy}
+use Rattle.route.proofs.Whys.{number-same}
 use Rattle.promises.specs.Calls.{Call, activateDefault, activateDedicated, modify, deactivate, reject, start, synchronise, handle, outcomeOf, matchedIn, leftByKind, leftBySaid, leftBy}
 use Rattle.promises.specs.Messages.{Message, modifies, activates, transactionOf, withoutTransaction, handled}
 use Rattle.promises.specs.Calls.{numbersOf, readerNumbers, writerNumbers, replyNumbers, routeNumbers, statusNumbers, portionNumbers, messageNumbers, parsedNumbers, assembledNumbers}
@@ -175,6 +178,9 @@ routed-numbers (routeRefused NotWellFormed) = refl
 routed-numbers (routeRefused NoDefault) = refl
 routed-numbers (routeRefused InvalidHeader) = refl
 
+pub why-tells : (a : Why) → isIn (whyNumber a) routeNumbers ≡ true
+why-tells a = ap (λ (n : ℕ). isIn n routeNumbers) (number-same a) ∙ routed-numbers (routedBy a)
+
 pub status-written-numbers : (w : StatusWritten) → isIn (statusNumber w) statusNumbers ≡ true
 unfolding isIn
 status-written-numbers wroteStatus = refl
@@ -182,6 +188,9 @@ status-written-numbers statusMalformed = refl
 status-written-numbers statusNoRoom = refl
 
 -- ".. header .."
+pub why-answers : (t : Table) (default : ℕ) (h : Header) → isIn (whyNumber (whyOf t default h)) routeNumbers ≡ true
+why-answers t default h = why-tells (whyOf t default h)
+
 pub route-answers : (t : Table) (default : ℕ) (h : Header) → isIn (routeNumber (routeOf t default h)) routeNumbers ≡ true
 route-answers t default h = routed-numbers (routeOf t default h)
 

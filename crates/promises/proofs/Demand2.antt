@@ -44,8 +44,9 @@ use Rattle.element.proofs.Examples.{Places, places}
 use Rattle.element.proofs.Theorems.{reader-42, reader-44, reader-45, place-says, refusal-placed, refusal-apart, writer-10, writer-11, writer-9, written-reads, writer-order}
 use Rattle.table.specs.declared.bearer.Table.{Table}
 use Rattle.table.specs.Ranges.{TableInRange}
-use Rattle.table.specs.Bearers.{bearerCount, filterAt, view, isDefault, roleOf}
-use Rattle.table.specs.WellFormed.{wellFormed, WellFormed, WellBy}
+use Rattle.table.specs.Bearers.{bearerCount, filterAt, isDefault, roleOf}
+use Rattle.table.specs.Tables.{view}
+use Rattle.table.specs.WellFormed.{wellFormed, RightLists, WellFormed, WellBy}
 use Rattle.table.proofs.Meaning.{well-says}
 use Rattle.table.proofs.Rules.{well-more}
 use Rattle.calls.specs.declared.reply.Answer.the-variants.{Accept}
@@ -88,7 +89,8 @@ use Rattle.route.specs.Routes.{numberOf as routeNumber, routeOf}
 use Rattle.route.specs.declared.answer.Route.{Route}
 use Rattle.route.specs.declared.answer.Answer.the-variants.{Routed}
 use Rattle.route.specs.Rule.{Fitting, Right, RightBy, RouteNumbered}
-use Rattle.route.proofs.Theorems.{route-numbers, route-says}
+use Rattle.route.specs.Why.{whyNumber, whyOf}
+use Rattle.route.proofs.Theorems.{route-numbers, route-says, why-numbers}
 use Rattle.route.proofs.Rules.{right-same}
 
 -- "Any other table is refused": the test is true exactly for the well-formed tables, said as a type
@@ -114,6 +116,9 @@ numbers-given t r (handle message) = handle-numbers t r message
 
 pub route-numbers-given : (t : Table) → TableInRange t → (default : ℕ) (h : Header) → RouteNumbered t default h (routeNumber (routeOf t default h))
 route-numbers-given t r default h = route-numbers t default h r
+
+pub why-numbers-given : (t : Table) → TableInRange t → (default : ℕ) (h : Header) → RouteNumbered t default h (whyNumber (whyOf t default h))
+why-numbers-given t r default h = why-numbers t default h r
 
 -- document 02, 6/14: "pass the place on, counted in the element's value": a reject with 42, 44 or 45 has the place of the value (`values-placed`), at step 4 too;
 -- one with 41, 43 or 47 has none, and nor has any of a default activation, which brings no element
@@ -335,15 +340,16 @@ fitted-from-now-on = fitted-now
 pub sctp-unfitted-before : (f : Filter) → PortOfSctp f → SomePacketFitted f → ⊥
 sctp-unfitted-before = sctp-unfitted
 
--- a table that was well formed is, and so no call refuses it with 1; and one that is was well formed exactly where it holds no filter with a port and SCTP
-pub well-formed-stays : (t : Table) → TableInRange t → WellBy fitsBefore (view t) → wellFormed t ≡ true
-well-formed-stays t r w = well-says t r .from (well-more fitsBefore fits (view t) (λ i j l m. still-fitted (filterAt t i j)) w)
+-- a table that was well formed is, with the lists that are held since 7/14, and so no call refuses it with 1; and one that is was well formed exactly where it
+-- holds no filter with a port and SCTP
+pub well-formed-stays : (t : Table) → TableInRange t → WellBy fitsBefore (view t) → RightLists t → wellFormed t ≡ true
+well-formed-stays t r w right = well-says t r .from (record { bearers = well-more fitsBefore fits (view t) (λ i j l m. still-fitted (filterAt t i j)) w; lists = right })
 
 pub well-formed-was : (t : Table) → TableInRange t → wellFormed t ≡ true
     → WellBy fitsBefore (view t) ↔ ((i j : ℕ) → i < bearerCount → j < placeCount → PortOfSctp (filterAt t i j) → ⊥)
 well-formed-was t r e = (
   λ w i j l m a. sctp-unfitted (filterAt t i j) a (w .fitted i j l m (named-held (filterAt t i j) sctp (a .protocol))),
-  λ none. well-more fits fitsBefore (view t) (λ i j l m s. ⊎-elim (λ b. b) (λ b. absurd (none i j l m (b .0))) (fitted-now (filterAt t i j) .0 s)) (well-says t r .to e),
+  λ none. well-more fits fitsBefore (view t) (λ i j l m s. ⊎-elim (λ b. b) (λ b. absurd (none i j l m (b .0))) (fitted-now (filterAt t i j) .0 s)) (well-says t r .to e .bearers),
 )
 
 -- "the routes follow": the right ones are the same for every header of another protocol, whatever the table ..

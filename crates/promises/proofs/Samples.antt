@@ -2,7 +2,7 @@
 -- computed; and a sequence of calls with two routes, and ten routes of SCTP and its like, computed too. Of each sample the whole outcome is shown: reply,
 -- follow-up list, and all eleven bearers with their rows; of the sequence every reply, and the whole table after eight calls and at the end.
 -- Assumes nothing.
-use mathlib.Core.Path.{_≡_, refl}
+use mathlib.Core.Path.{_≡_, refl, _∙_, ap, ap₂, fun-ext}
 use mathlib.Core.Logic.{_↔_}
 use mathlib.Core.Bool.{Bool, true, not, _&&_}
 use mathlib.Core.List.{List, [], _∷_, _++_, map}
@@ -11,7 +11,7 @@ use lib.Dec.{eqb}
 use lib.ListN.{take, getD}
 use Rattle.laws.specs.Says.{pick}
 use Rattle.laws.specs.Index.{allBelow, anyBelow, lastBelow, picks, tab, pad, joined}
-use Rattle.laws.specs.Lists.{every, isIn, repeats}
+use Rattle.laws.specs.Lists.{All, every, isIn, repeats}
 use Rattle.laws.specs.Numbers.{sameUnder}
 use Rattle.laws.specs.Octets.{beFrom}
 use Rattle.laws.proofs.Says.{says-not, says-it, says-all}
@@ -38,31 +38,35 @@ use Rattle.element.specs.Read.{noFilters, noMarks, entriesOf as elementEntries,
 use Rattle.table.specs.declared.bearer.Role.{Role}
 use Rattle.table.specs.declared.bearer.Role.the-variants.{Idle, Default, Dedicated}
 use Rattle.table.specs.declared.bearer.Table.{Table}
-use Rattle.table.specs.Bearers.{bearerCount, identityOf, emptyTable, build, filterAt}
-use Rattle.table.specs.WellFormed.{filterFine, bearerFine, transactionsApart, transactionFrom, distinctTransactions, rowPrecedences, connectionPrecedences, distinctAt, distinctPrecedences, wellFormed}
+use Rattle.table.specs.Bearers.{bearerCount, identityOf, filterAt}
+use Rattle.table.specs.Lists.{isUplink, placeHas, bearerHas, entryIn, entryAt, entryOf, cellAt, decoded}
+use Rattle.table.specs.Tables.{emptyTable, build}
+use Rattle.table.specs.WellFormed.{filterFine, bearerFine, transactionsApart, transactionFrom, distinctTransactions, rowPrecedences, connectionPrecedences, distinctAt, distinctPrecedences, bearersFine, wellFormed}
 use Rattle.calls.specs.declared.reply.Answer.{Answer}
 use Rattle.calls.specs.declared.reply.Answer.the-variants.{Accept, Reject, Release, Reattach, Started, Closed, Synchronised, Refused}
 use Rattle.calls.specs.declared.reply.FollowUps.{FollowUps}
 use Rattle.calls.specs.declared.reply.Reply.{Reply}
+use Rattle.calls.specs.declared.reply.Outcome.{Outcome}
 use Rattle.calls.specs.Reply.{causeNumber, refusalNumber, followOf}
 use Rattle.calls.specs.Steps.{opensAt, isOpen, ownerOf, closed, ofConnection, isAt, dropped, deletedIn, holdsIn, staysIn, empties}
 use Rattle.calls.specs.Lay.{old, takenBy, takes, conflict, placed, conflictIn, loses, placedIn, losesAt, conflictOnDefault, follows, released, followers, otherAt, onlyConnection, layWithin, layOf}
 use Rattle.element.specs.Head.{headFine}
-use Rattle.calls.specs.Modify.{deletedFilters, deletedTft, modifyRead, modifyNamed, modifyOf}
-use Rattle.calls.specs.Others.{activateDefaultOf, activateRead, activateNamed, activateDedicatedOf, deactivateOf, rejectOf, startOf}
+use Rattle.calls.specs.Modify.{deletedFilters, deletedTft, modifyRead, modifyNamed}
+use Rattle.calls.specs.Others.{activateRead, activateNamed}
 use Rattle.status.specs.Value.{shownActive}
-use Rattle.status.specs.Take.{goneBy, synchroniseOf}
+use Rattle.status.specs.Take.{goneBy}
 use Rattle.messages.specs.Layout.{kindOf, formIn}
 use Rattle.messages.specs.Read.{elements, activationStart, readOf}
-use Rattle.messages.specs.Handle.{requestOf, acceptOf, handleOf}
+use Rattle.messages.specs.Handle.{requestOf}
 use Rattle.route.specs.declared.answer.Route.{Route}
 use Rattle.route.specs.declared.answer.Route.the-variants.{Bearer}
 use Rattle.route.specs.declared.answer.Answer.{Answer as RouteAnswer}
 use Rattle.route.specs.declared.answer.Answer.the-variants.{Routed}
-use Rattle.route.specs.Lists.{isUplink, placeHas, bearerHas, entryIn, entryAt, entriesOf}
 use Rattle.route.specs.Routes.{filterOf, entryFits, firstFit, uplinkAt, hasUplink, otherwiseOf, routeOn, routeOf}
 use Rattle.route.specs.Rule.{OwnUplink, FittingBy, RightBy, byFilter, byDefault, discarded}
-use Rattle.promises.specs.Calls.{Call, activateDefault, activateDedicated, modify, deactivate, reject, start, synchronise, handle, outcomeOf, run, replies, reached}
+use Rattle.promises.specs.Calls.{Call, activateDefault, activateDedicated, modify, deactivate, reject, start, synchronise, handle, outcomeBy, runBy, repliesBy, outcomeOf, replies, reached}
+use Rattle.promises.proofs.Demand3.{empty-sound}
+use Rattle.promises.proofs.Fine.{built-well, fineOutcomes, fine-outcome, fine-run, fine-replies, sent, all-sent, fineRoute, fine-route}
 
 -- ---- Tables and filters of the samples
 -- bearers 5, 6, .. in these roles, the others idle; no transaction is open
@@ -294,19 +298,85 @@ SctpRoutes =
     × (routeOf (bothPorts (isProtocol 132)) 5 (packet 132 2905 5061) ≡ Routed (Bearer 5))
     × (routeOf (bothPorts (isProtocol 132)) 5 (packet 132 2906 5060) ≡ Routed (Bearer 5))
 
--- ---- All are computed, by opening the definitions that they are said in
-computed : Samples × Sequence × SctpRoutes
-unfolding allBelow anyBelow picks tab pad every isIn repeats sameUnder beFrom excluded added held wellCoded emptyPlace validHeader agreesNetwork fits sample fittable lengthOf componentOf contentsFrom contentsOf splitOf parameters restFits framedBy framedOf noFilters noMarks codedOf elementEntries twice inPlaces marked readValue unframedPlace earliest repeatsOne filtersPlace placeOf unplaced readElement filterFine bearerFine transactionsApart transactionFrom distinctTransactions joined rowPrecedences connectionPrecedences distinctAt distinctPrecedences wellFormed opensAt isOpen closed ofConnection deletedIn holdsIn staysIn empties old takenBy takes conflict placed conflictIn loses placedIn losesAt conflictOnDefault follows released followers otherAt onlyConnection layWithin layOf headFine deletedFilters deletedTft modifyRead modifyNamed modifyOf dropped isAt ownerOf run replies emptyTable activateDefaultOf activateRead activateNamed activateDedicatedOf deactivateOf rejectOf startOf lastBelow uplink placeHas bearerHas entryIn entryAt entriesOf filterOf entryFits firstFit uplinkAt hasUplink otherwiseOf routeOn routeOf shownActive goneBy synchroniseOf kindOf formIn elements activationStart readOf requestOf acceptOf handleOf
-computed = (refl, (refl, refl, refl, refl, refl), (refl, refl, refl, refl))
+-- ---- All are computed, by opening the definitions that they are said in, but for one thing: that a table is well formed is computed of its bearers alone, and of its
+-- lists a law says it. So the eight functions are computed past that test (`fineOutcomes`), in the same calls and sequences, and `Fine` says that on well-formed tables
+-- this is what the definitions give
+-- each sample begins with a well-formed table
+abbrev Starts : Sample → Type 0
+Starts (gives t bearer value answer follow after) = wellFormed t ≡ true
 
+abbrev shownFine : Sample → Shown
+shownFine (gives t bearer value answer follow after) =
+    let o = outcomeBy fineOutcomes t (modify bearer 0 value) in
+    record { reply = told (o .reply); table = o .table }
+
+shown-fine : (ss : List Sample) → All Starts ss → map shown ss ≡ map shownFine ss
+shown-fine [] s = refl
+shown-fine (gives t bearer value answer follow after ∷ ss) s =
+    ap₂ (λ (o : Outcome) (rest : List Shown). record { reply = told (o .reply); table = o .table } ∷ rest) (fine-outcome t (s .0) (modify bearer 0 value)) (shown-fine ss (s .1))
+
+all-start : All Starts sampleElements
+unfolding allBelow tab every isIn repeats sameUnder held wellCoded emptyPlace validHeader agreesNetwork fits sample fittable filterFine bearerFine transactionsApart transactionFrom distinctTransactions joined rowPrecedences connectionPrecedences distinctAt distinctPrecedences bearersFine
+all-start = (built-well _ refl, (built-well _ refl, (built-well _ refl, (built-well _ refl, (built-well _ refl, (built-well _ refl, (built-well _ refl, (built-well _ refl, (built-well _ refl, (built-well _ refl, (built-well _ refl, (built-well _ refl, (built-well _ refl, (built-well _ refl, (built-well _ refl, (built-well _ refl, (built-well _ refl, tt)))))))))))))))))
+
+-- the calls past that
+computed : (map shownFine sampleElements ≡ map due sampleElements)
+    × (map told (repliesBy fineOutcomes emptyTable (map called (opening ++ ending))) ≡ map awaited (opening ++ ending))
+    × (runBy fineOutcomes emptyTable (map called opening) ≡ holding fiveAndSix 6 1 (udp (isPort 5060)))
+    × (runBy fineOutcomes emptyTable (map called (opening ++ ending)) ≡ with secondAlone)
+    × (every sent (map called opening) ≡ true)
+    × (every sent (map called (opening ++ ending)) ≡ true)
+unfolding allBelow anyBelow picks tab pad every isIn repeats sameUnder beFrom excluded added held wellCoded emptyPlace validHeader agreesNetwork fits sample fittable lengthOf componentOf contentsFrom contentsOf splitOf parameters restFits framedBy framedOf noFilters noMarks codedOf elementEntries twice inPlaces marked readValue unframedPlace earliest repeatsOne filtersPlace placeOf unplaced readElement opensAt isOpen closed ofConnection deletedIn holdsIn staysIn empties old takenBy takes conflict placed conflictIn loses placedIn losesAt conflictOnDefault follows released followers otherAt onlyConnection layWithin layOf headFine deletedFilters deletedTft modifyRead modifyNamed dropped isAt ownerOf runBy repliesBy sent emptyTable activateRead activateNamed lastBelow shownActive goneBy kindOf formIn elements activationStart readOf requestOf
+computed = (refl, refl, refl, refl, refl, refl)
+
+-- the routes, on these tables
+abbrev sampledTable : Table
+sampledTable = holding fiveAndSix 6 1 (udp (isPort 5060))
+
+abbrev RoutesTo : Table → Header → ℕ → Type 0
+RoutesTo t h bearer = fineRoute (t .bearers) h ≡ Routed (Bearer bearer)
+
+abbrev fineRoutes : Protocol → List RouteAnswer
+fineRoutes protocol = map (λ (n : ℕ). fineRoute (bothPorts protocol .bearers) (packet n 2905 5060)) (6 ∷ 17 ∷ 132 ∷ 136 ∷ [])
+
+routed : (bearersFine sampledTable ≡ true)
+    × (bearersFine (bothPorts (isProtocol 132)) ≡ true)
+    × (bearersFine (bothPorts noProtocol) ≡ true)
+    × RoutesTo sampledTable (packet 17 0 5060) 6
+    × RoutesTo sampledTable (packet 17 0 5061) 5
+    × (fineRoutes (isProtocol 132) ≡ sentOn (5 ∷ 5 ∷ 6 ∷ 5 ∷ []))
+    × (fineRoutes noProtocol ≡ sentOn (6 ∷ 6 ∷ 6 ∷ 5 ∷ []))
+    × RoutesTo (bothPorts (isProtocol 132)) (packet 132 2905 5061) 5
+    × RoutesTo (bothPorts (isProtocol 132)) (packet 132 2906 5060) 5
+unfolding allBelow anyBelow lastBelow tab sameUnder held wellCoded emptyPlace validHeader agreesNetwork fits sample fittable uplink placeHas bearerHas entryIn entryAt filterOf entryFits firstFit uplinkAt hasUplink otherwiseOf routeOn filterFine bearerFine transactionsApart transactionFrom distinctTransactions every isIn repeats joined rowPrecedences connectionPrecedences distinctAt distinctPrecedences bearersFine
+routed = (refl, refl, refl, refl, refl, refl, refl, refl, refl)
+
+-- ---- so they are as claimed
 pub samples : Samples
-samples = computed .0
+samples = shown-fine sampleElements all-start ∙ computed .0
 
 pub sequence : Sequence
-sequence = computed .1
+sequence = (
+  ap (map told) (fine-replies emptyTable empty-sound (map called (opening ++ ending)) (all-sent (map called (opening ++ ending)) (computed .5))) ∙ computed .1,
+  is,
+  ap (λ (t : Table). routeOf t 5 (packet 17 0 5060)) is ∙ fine-route (sampledTable .bearers) (routed .0) (packet 17 0 5060) ∙ routed .3,
+  ap (λ (t : Table). routeOf t 5 (packet 17 0 5061)) is ∙ fine-route (sampledTable .bearers) (routed .0) (packet 17 0 5061) ∙ routed .4,
+  fine-run emptyTable empty-sound (map called (opening ++ ending)) (all-sent (map called (opening ++ ending)) (computed .5)) ∙ computed .3,
+)
+  where
+    is : reached (map called opening) ≡ sampledTable
+    is = fine-run emptyTable empty-sound (map called opening) (all-sent (map called opening) (computed .4)) ∙ computed .2
 
 pub sctp-routes : SctpRoutes
-sctp-routes = computed .2
+sctp-routes = (
+  alike (isProtocol 132) (routed .1) ∙ routed .5,
+  alike noProtocol (routed .2) ∙ routed .6,
+  fine-route (bothPorts (isProtocol 132) .bearers) (routed .1) (packet 132 2905 5061) ∙ routed .7,
+  fine-route (bothPorts (isProtocol 132) .bearers) (routed .1) (packet 132 2906 5060) ∙ routed .8,
+)
+  where
+    alike : (protocol : Protocol) → bearersFine (bothPorts protocol) ≡ true → routesOf protocol ≡ fineRoutes protocol
+    alike protocol e = ap (λ (f : ℕ → RouteAnswer). map f (6 ∷ 17 ∷ 132 ∷ 136 ∷ [])) (fun-ext (λ (n : ℕ). fine-route (bothPorts protocol .bearers) e (packet n 2905 5060)))
 
 -- ---- Before SCTP carried ports, the packet of SCTP that the filter without a protocol sends on 6 was right on 5, and nowhere else
 abbrev sctpPacket : Header
@@ -341,3 +411,9 @@ sctp-route-before r = (to, byDefault none own)
     to (byFilter i j l e) = absurd (none i j (l .fitting))
     to (byDefault empty bare e) = e
     to (discarded empty j o e) = absurd (own j o)
+
+-- ---- the lists of the table after the first sample, computed: position 10 of 5's list names filter 1 of bearer 6, as octet 97; its neighbours, and the list of 6, name nothing
+pub listed : let bs = holding fiveAndSix 6 1 (udp (isPort 5060)) .bearers in
+    (entryAt bs 5 10 ≡ entryOf 6 1) × (cellAt bs 10 ≡ 97) × (cellAt bs 9 ≡ 0) × (cellAt bs 11 ≡ 0) × (cellAt bs 266 ≡ 0) × (decoded 97 ≡ entryOf 6 1)
+unfolding tab anyBelow lastBelow held uplink placeHas bearerHas entryIn entryAt cellAt decoded
+listed = (refl, refl, refl, refl, refl, refl)

@@ -7,7 +7,7 @@ use Rattle.laws.specs.Lists.{All}
 use Rattle.element.specs.Meaning.{Octet}
 use Rattle.element.specs.Portions.{PortionCall, announce, feed, finish}
 use Rattle.table.specs.declared.bearer.Table.{Table}
-use Rattle.table.specs.Bearers.{emptyTable}
+use Rattle.table.specs.Tables.{emptyTable}
 use Rattle.table.specs.WellFormed.{wellFormed}
 use Rattle.calls.specs.declared.reply.Reply.{Reply}
 use Rattle.calls.specs.declared.reply.Outcome.{Outcome}
@@ -32,26 +32,61 @@ pub data Call : Type 0 where
   synchronise : (value : List ℕ) → Call
   handle : (message : List ℕ) → Call
 
--- its outcome, by the definition that the contract of the function cites
+-- what the eight functions give on a table ..
+pub record Outcomes : Type 0 where
+  pub default : (bearer : ℕ) → Outcome
+  pub dedicated : (bearer link transaction : ℕ) → (value : List ℕ) → Outcome
+  pub modified : (bearer transaction : ℕ) → (value : List ℕ) → Outcome
+  pub deactivated : (bearer transaction : ℕ) → Outcome
+  pub rejected : (transaction cause : ℕ) → Outcome
+  pub started : (transaction bearer : ℕ) → Outcome
+  pub synchronised : (value : List ℕ) → Outcome
+  pub handled : (message : List ℕ) → Outcome
+
+-- .. by the definition that the contract of the function cites
+abbrev pub outcomes : Table → Outcomes
+outcomes t =
+    record {
+      default = activateDefaultOf t;
+      dedicated = activateDedicatedOf t;
+      modified = modifyOf t;
+      deactivated = deactivateOf t;
+      rejected = rejectOf t;
+      started = startOf t;
+      synchronised = synchroniseOf t;
+      handled = λ message. handleOf t message .outcome;
+    }
+
+module _ (give : Table → Outcomes) where
+  -- the outcome of a call
+  abbrev pub outcomeBy : Table → Call → Outcome
+  outcomeBy t (activateDefault bearer) = give t .default bearer
+  outcomeBy t (activateDedicated bearer link transaction value) = give t .dedicated bearer link transaction value
+  outcomeBy t (modify bearer transaction value) = give t .modified bearer transaction value
+  outcomeBy t (deactivate bearer transaction) = give t .deactivated bearer transaction
+  outcomeBy t (reject transaction cause) = give t .rejected transaction cause
+  outcomeBy t (start transaction bearer) = give t .started transaction bearer
+  outcomeBy t (synchronise value) = give t .synchronised value
+  outcomeBy t (handle message) = give t .handled message
+
+  -- each table is fed into the next call; refused calls are in the list like any other
+  unfoldable pub runBy : Table → List Call → Table
+  runBy t [] = t
+  runBy t (c ∷ cs) = runBy (outcomeBy t c .table) cs
+
+  -- what each call of a sequence replies, on the table that the calls before it left: the answer, and the follow-up list
+  unfoldable pub repliesBy : Table → List Call → List Reply
+  repliesBy t [] = []
+  repliesBy t (c ∷ cs) = outcomeBy t c .reply ∷ repliesBy (outcomeBy t c .table) cs
+
 abbrev pub outcomeOf : Table → Call → Outcome
-outcomeOf t (activateDefault bearer) = activateDefaultOf t bearer
-outcomeOf t (activateDedicated bearer link transaction value) = activateDedicatedOf t bearer link transaction value
-outcomeOf t (modify bearer transaction value) = modifyOf t bearer transaction value
-outcomeOf t (deactivate bearer transaction) = deactivateOf t bearer transaction
-outcomeOf t (reject transaction cause) = rejectOf t transaction cause
-outcomeOf t (start transaction bearer) = startOf t transaction bearer
-outcomeOf t (synchronise value) = synchroniseOf t value
-outcomeOf t (handle message) = handleOf t message .outcome
+outcomeOf = outcomeBy outcomes
 
--- each table is fed into the next call; refused calls are in the list like any other
-unfoldable pub run : Table → List Call → Table
-run t [] = t
-run t (c ∷ cs) = run (outcomeOf t c .table) cs
+abbrev pub run : Table → List Call → Table
+run = runBy outcomes
 
--- what each call of a sequence replies, on the table that the calls before it left: the answer, and the follow-up list
-unfoldable pub replies : Table → List Call → List Reply
-replies t [] = []
-replies t (c ∷ cs) = outcomeOf t c .reply ∷ replies (outcomeOf t c .table) cs
+abbrev pub replies : Table → List Call → List Reply
+replies = repliesBy outcomes
 
 abbrev pub reached : List Call → Table
 reached cs = run emptyTable cs
