@@ -38,10 +38,19 @@ pub enum RoleWord {
     Dedicated(u8),
 }
 
-// What is done to a bearer by hand. Its identity is as the line has it, any octet.
+// What a position of an identity's held list is to name: the filter at `place` of `bearer`, or nothing where both are 0.
+pub struct HeldEntry {
+    pub identity: u8,
+    pub position: u8,
+    pub bearer: u8,
+    pub place: u8,
+}
+
+// What is done to a bearer or to a held list by hand. Identities are as the line has them, any octet.
 pub enum Hand {
     Force(u8, RoleWord, u8),
     Place(u8, Plan),
+    Entry(HeldEntry),
 }
 
 // What is done to the operation that is being composed. A kind is the place of its word.
@@ -74,13 +83,16 @@ pub struct Assembly {
 }
 
 // What changes neither the table nor the operation. `Nothing` is an empty line or a comment, and `Bad` a line that is none of the language's.
+// The identity of `List` is as the line has it, any octet.
 pub enum Question {
     Nothing,
     Bad,
     Echo(bool),
     Route(u8, Header),
+    Why(u8, Header),
     Check,
     Show,
+    List(u8),
     Element(usize),
     Rewrite(usize, usize),
     Emit(usize),

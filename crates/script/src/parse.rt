@@ -7,6 +7,7 @@ use crate::command::Call;
 use crate::command::Command;
 use crate::command::Feeding;
 use crate::command::Hand;
+use crate::command::HeldEntry;
 use crate::command::Part;
 use crate::command::Plan;
 use crate::command::Question;
@@ -41,13 +42,14 @@ use filter::Header;
 
 // The words that a line begins with, and their places. Who reads lines lends them: an array that is a constant is made anew, octet by octet,
 // wherever it stands.
-pub const WORDS: [u8; 560] = *b"\
+pub const WORDS: [u8; 620] = *b"\
     default             dedicated           modify              deactivate          start               \
     reject              route               check               show                element             \
     rewrite             emit                force               place               compose             \
     filter              identifier          echo                status              synchronise         \
     compare             announce            portion             finish              force-fed           \
-    parse               message             assemble            ";
+    parse               message             assemble            list                force-entry         \
+    why                 ";
 
 const DEFAULT: usize = 0;
 
@@ -104,6 +106,12 @@ const PARSE: usize = 25;
 const MESSAGE: usize = 26;
 
 const ASSEMBLE: usize = 27;
+
+const LIST: usize = 28;
+
+const FORCE_ENTRY: usize = 29;
+
+const WHY: usize = 30;
 
 // The words of a role, and their places.
 const ROLES: [u8; 60] = *b"idle                default             dedicated           ";
@@ -197,9 +205,9 @@ fn read_numbers(line: &[u8], scan: Scan, count: usize) -> Numbers {
 // How many numbers up to 255 stand together in a line, before its HEX where it has one.
 fn numbers_of(word: usize) -> usize {
     match word {
-        DEFAULT => 1,
+        DEFAULT | FORCE | PLACE | LIST => 1,
         MODIFY | DEACTIVATE | START | REJECT | FORCE_FED => 2,
-        DEDICATED | ASSEMBLE => 3,
+        DEDICATED | ASSEMBLE | FORCE_ENTRY => 3,
         _ => 0,
     }
 }
@@ -299,7 +307,16 @@ fn parse_ends(line: &[u8], s: Scan) -> Ends {
     }
 }
 
-fn parse_route(line: &[u8], s: Scan) -> Command {
+// `route` and `why` ask of the same packets.
+fn packet_question(word: usize, default: u8, header: Header) -> Question {
+    if word == WHY {
+        Question::Why(default, header)
+    } else {
+        Question::Route(default, header)
+    }
+}
+
+fn parse_packet(word: usize, line: &[u8], s: Scan) -> Command {
     let default = number(line, s, OCTET);
     let version = number(line, default, OCTET);
     let addressed = parse_address(line, version);
@@ -310,9 +327,6 @@ fn parse_route(line: &[u8], s: Scan) -> Command {
     let index = number(line, after, WORD);
     let class = number(line, index, OCTET);
     let label = number(line, class, WORD);
-    if !whole(line, label) {
-        return bad();
-    }
     let header = Header {
         version: octet(version.value),
         address,
@@ -323,7 +337,11 @@ fn parse_route(line: &[u8], s: Scan) -> Command {
         class: octet(class.value),
         label: word_of(label.value),
     };
-    Command::Ask(Question::Route(octet(default.value), header))
+    parse_bare(
+        line,
+        label,
+        packet_question(word, octet(default.value), header),
+    )
 }
 
 fn parse_bare(line: &[u8], s: Scan, question: Question) -> Command {
@@ -392,13 +410,13 @@ fn parse_filter(line: &[u8], s: Scan) -> Command {
     Command::Compose(Part::Filter(plan))
 }
 
-fn parse_place(line: &[u8], s: Scan) -> Command {
-    let bearer = number(line, s, OCTET);
-    let plan = parse_plan(line, bearer);
+fn parse_place(line: &[u8], n: Numbers) -> Command {
+    let after = n.scan;
+    let plan = parse_plan(line, after);
     if !plan_fine(line, plan) {
         return bad();
     }
-    Command::Hand(Hand::Place(octet(bearer.value), plan))
+    Command::Hand(Hand::Place(n.third, plan))
 }
 
 fn parse_identifier(line: &[u8], s: Scan) -> Command {
@@ -419,6 +437,11 @@ fn parse_status(line: &[u8], s: Scan) -> Command {
     parse_bare(line, room, Question::Status(size(room.value)))
 }
 
+fn parse_list(line: &[u8], n: Numbers) -> Command {
+    let end = n.scan;
+    parse_bare(line, end, Question::List(n.third))
+}
+
 fn parse_echo(line: &[u8], s: Scan) -> Command {
     let word = listed(&SWITCHES, line, s);
     let switch = size(word.value);
@@ -436,10 +459,10 @@ fn forced(line: &[u8], identity: u8, role: RoleWord, s: Scan) -> Command {
     Command::Hand(Hand::Force(identity, role, octet(transaction.value)))
 }
 
-fn parse_force(line: &[u8], s: Scan) -> Command {
-    let bearer = number(line, s, OCTET);
-    let identity = octet(bearer.value);
-    let after = listed(&ROLES, line, bearer);
+fn parse_force(line: &[u8], n: Numbers) -> Command {
+    let identity = n.third;
+    let before = n.scan;
+    let after = listed(&ROLES, line, before);
     let role = size(after.value);
     match role {
         IDLE_ROLE => forced(line, identity, RoleWord::Idle, after),
@@ -450,6 +473,21 @@ fn parse_force(line: &[u8], s: Scan) -> Command {
         }
         _ => bad(),
     }
+}
+
+fn parse_force_entry(line: &[u8], n: Numbers) -> Command {
+    let before = n.scan;
+    let place = number(line, before, LAST_PLACE);
+    if !whole(line, place) {
+        return bad();
+    }
+    let entry = HeldEntry {
+        identity: n.first,
+        position: n.second,
+        bearer: n.third,
+        place: octet(place.value),
+    };
+    Command::Hand(Hand::Entry(entry))
 }
 
 fn parse_feeding(line: &[u8], end: Scan, feeding: Feeding) -> Command {
@@ -512,14 +550,16 @@ fn parse_word(word: usize, line: &[u8], s: Scan, n: Numbers, value: Scan) -> Com
     match word {
         DEFAULT | DEACTIVATE | START | REJECT => parse_numbered(word, line, n),
         DEDICATED | MODIFY => parse_valued(word, line, n, value),
-        ROUTE => parse_route(line, s),
+        ROUTE | WHY => parse_packet(word, line, s),
         CHECK => parse_bare(line, s, Question::Check),
         SHOW => parse_bare(line, s, Question::Show),
+        LIST => parse_list(line, n),
         ELEMENT => parse_element(line, value),
         REWRITE => parse_rewrite(line, value),
         EMIT => parse_emit(line, s),
-        FORCE => parse_force(line, s),
-        PLACE => parse_place(line, s),
+        FORCE => parse_force(line, n),
+        PLACE => parse_place(line, n),
+        FORCE_ENTRY => parse_force_entry(line, n),
         COMPOSE => parse_compose(line, s),
         FILTER => parse_filter(line, s),
         IDENTIFIER => parse_identifier(line, s),

@@ -87,7 +87,7 @@ fn filter_of(line: &[u8], command: Command, times: u64) -> Filter {
     match command {
         Command::Hand(hand) => match hand {
             Hand::Place(_, plan) => build_times(line, plan, times),
-            Hand::Force(_, _, _) => no_filter(),
+            _ => no_filter(),
         },
         Command::Compose(part) => match part {
             Part::Filter(plan) => build_times(line, plan, times),

@@ -3,8 +3,10 @@ use crate::esm::put_assembled;
 use crate::esm::put_parsed;
 use crate::replies::put_route;
 use crate::replies::put_well_formed;
+use crate::replies::put_why;
 use crate::statuses::put_compared;
 use crate::statuses::put_status;
+use crate::tables::put_list;
 use crate::tables::put_table;
 use crate::times::assemble_times;
 use crate::times::check_times;
@@ -13,6 +15,7 @@ use crate::times::read_times;
 use crate::times::rewrite_times;
 use crate::times::route_times;
 use crate::times::status_times;
+use crate::times::why_times;
 use crate::times::write_times;
 use element::Element;
 use filter::Header;
@@ -46,6 +49,10 @@ fn ask_route(
     at: usize,
 ) -> usize {
     put_route(out, at, route_times(t, default, header, times))
+}
+
+fn ask_why(t: Table, default: u8, header: Header, times: u64, out: &mut [u8], at: usize) -> usize {
+    put_why(out, at, why_times(t, default, header, times))
 }
 
 fn ask_check(t: Table, times: u64, out: &mut [u8], at: usize) -> usize {
@@ -116,8 +123,10 @@ pub(crate) fn answer(
         Question::Bad => put_bad_line(out, at, lines),
         Question::Echo(on) => put_switch(out, at, on),
         Question::Route(default, header) => ask_route(t, default, header, times, out, at),
+        Question::Why(default, header) => ask_why(t, default, header, times, out, at),
         Question::Check => ask_check(t, times, out, at),
         Question::Show => put_table(out, at, t),
+        Question::List(identity) => put_list(out, at, t, identity),
         Question::Element(count) => ask_element(part(octets, 0, count), times, out, at),
         Question::Rewrite(count, n) => ask_rewrite(part(octets, 0, count), n, times, out, at),
         Question::Emit(n) => ask_emit(e, n, times, out, at),

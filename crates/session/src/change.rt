@@ -10,15 +10,18 @@ use crate::times::synchronise_times;
 use calls::Outcome;
 use filter::Filter;
 use filter::component::PLACES;
+use filter::component::PRECEDENCES;
 use script::command::Call;
 use script::command::Command;
 use script::command::Hand;
+use script::command::HeldEntry;
 use script::command::Question;
 use script::command::RoleWord;
 use script::reader::Reader;
 use script::scan::part;
 use script::text::put;
 use script::text::put_end;
+use script::text::put_line;
 use script::text::put_named;
 use script::text::put_named_line;
 use script::text::put_number;
@@ -29,6 +32,7 @@ use table::Table;
 use table::bearer::BEARERS;
 use table::bearer::index_of;
 use table::bearer::is_identity;
+use table::list::table_of;
 
 // `octets` begin with those of the line's HEX. What a message is answered with is put into `sent`.
 pub(crate) fn call_times(
@@ -84,6 +88,7 @@ fn changed(b: Bearer, asked: Hand, f: Filter) -> Bearer {
             ..b
         },
         Hand::Place(_, plan) => with_place(b, plan.place, f),
+        Hand::Entry(_) => b,
     }
 }
 
@@ -91,17 +96,44 @@ fn identity_of(asked: Hand) -> u8 {
     match asked {
         Hand::Force(identity, _, _) => identity,
         Hand::Place(identity, _) => identity,
+        Hand::Entry(entry) => entry.identity,
     }
 }
 
-pub(crate) fn by_hand(t: Table, asked: Hand, f: Filter) -> Table {
+// The bearer of the line changed, and then every held list as the rule has it: a table made by hand is spoilt by its entries alone.
+fn with_bearer(t: Table, asked: Hand, f: Filter) -> Table {
     let i = index_of(identity_of(asked));
     let mut next = t;
     if i < BEARERS {
         let b = next.bearers[i];
         next.bearers[i] = changed(b, asked, f);
     }
+    let bearers = next.bearers;
+    table_of(bearers)
+}
+
+// An entry as the lists hold it. Identities and places are below 16 where a line is not bad: the remainders are there for the proof alone.
+const PER_BEARER: u8 = PLACES as u8;
+
+fn cell_of(entry: HeldEntry) -> u8 {
+    entry.bearer % PER_BEARER * PER_BEARER + entry.place % PER_BEARER
+}
+
+fn with_entry(t: Table, entry: HeldEntry) -> Table {
+    let i = index_of(entry.identity);
+    let mut next = t;
+    if i < BEARERS {
+        let at = i * PRECEDENCES + entry.position as usize;
+        next.lists[at] = cell_of(entry);
+    }
     next
+}
+
+pub(crate) fn by_hand(t: Table, asked: Hand, f: Filter) -> Table {
+    match asked {
+        Hand::Entry(entry) => with_entry(t, entry),
+        _ => with_bearer(t, asked, f),
+    }
 }
 
 fn put_placed(out: &mut [u8], at: usize, identity: u8, place: usize) -> usize {
@@ -115,16 +147,43 @@ pub(crate) fn put_by_hand(out: &mut [u8], at: usize, asked: Hand) -> usize {
     match asked {
         Hand::Force(identity, _, _) => put_named_line(out, at, b"forced", wide(identity)),
         Hand::Place(identity, plan) => put_placed(out, at, identity, plan.place),
+        Hand::Entry(_) => put_line(out, at, b"forced-entry"),
     }
 }
 
-// What the line asks for. Which identities bearers have is known only here: a change by hand of another makes a bad line.
+// Whether an entry names a filter that a bearer may have, or nothing.
+fn names_fine(entry: HeldEntry) -> bool {
+    is_identity(entry.bearer) | ((entry.bearer == 0) & (entry.place == 0))
+}
+
+fn hand_fine(asked: Hand) -> bool {
+    let fine = is_identity(identity_of(asked));
+    match asked {
+        Hand::Entry(entry) => fine & names_fine(entry),
+        _ => fine,
+    }
+}
+
+fn question_fine(asked: Question) -> bool {
+    match asked {
+        Question::List(identity) => is_identity(identity),
+        _ => true,
+    }
+}
+
+fn command_fine(command: Command) -> bool {
+    match command {
+        Command::Hand(asked) => hand_fine(asked),
+        Command::Ask(asked) => question_fine(asked),
+        _ => true,
+    }
+}
+
+// What the line asks for. Which identities bearers have is known only here: where the table is to be changed by hand, or a list to be told,
+// another makes a bad line.
 pub(crate) fn judged(reader: Reader) -> Command {
     let command = reader.command;
-    let Command::Hand(asked) = command else {
-        return command;
-    };
-    if is_identity(identity_of(asked)) {
+    if command_fine(command) {
         command
     } else {
         Command::Ask(Question::Bad)

@@ -1,8 +1,10 @@
-// The replies of calls and routes, and of the test of a table.
+// The replies of calls, routes and reasons, and of the test of a table.
 use calls::FollowUps;
 use calls::Place;
 use calls::Reply;
 use route::Route;
+use route::Why;
+use route::why::why_number;
 use script::elements::put_refused;
 use script::text::put;
 use script::text::put_end;
@@ -85,6 +87,29 @@ pub(crate) fn put_route(out: &mut [u8], at: usize, answer: route::Answer) -> usi
             Route::Discard => put_line(out, at, b"discard"),
         },
         route::Answer::Refused(_) => put_refused(out, at, route::answer::number(answer)),
+    }
+}
+
+fn put_filter_named(out: &mut [u8], at: usize, bearer: u8, place: u8, precedence: u8) -> usize {
+    let o = put_named(out, at, b"bearer", wide(bearer));
+    let o = put_named(out, o, b" filter", wide(place));
+    let o = put_named(out, o, b" precedence", wide(precedence));
+    put_end(out, o)
+}
+
+fn put_default(out: &mut [u8], at: usize, bearer: u8) -> usize {
+    let o = put_named(out, at, b"bearer", wide(bearer));
+    put_line(out, o, b" default")
+}
+
+pub(crate) fn put_why(out: &mut [u8], at: usize, answer: Why) -> usize {
+    match answer {
+        Why::Filter(bearer, place, precedence) => {
+            put_filter_named(out, at, bearer, place, precedence)
+        }
+        Why::Default(bearer) => put_default(out, at, bearer),
+        Why::Discard => put_line(out, at, b"discard"),
+        Why::Refused(_) => put_refused(out, at, why_number(answer)),
     }
 }
 

@@ -11,6 +11,7 @@ use element::Written;
 use filter::Header;
 use messages::MessageWritten;
 use messages::Parsed;
+use route::Why;
 use script::command::Assembly;
 use status::StatusWritten;
 use table::Table;
@@ -136,6 +137,17 @@ pub(crate) fn route_times(t: Table, default: u8, header: Header, times: u64) -> 
     let mut i = 1;
     while i < times {
         answer = route::choose::route(t, default, header);
+        i += 1;
+    }
+    answer
+}
+
+// Called in two places, as `route_times` does it.
+pub(crate) fn why_times(t: Table, default: u8, header: Header, times: u64) -> Why {
+    let mut answer = route::why::why(t, default, header);
+    let mut i = 1;
+    while i < times {
+        answer = route::why::why(t, default, header);
         i += 1;
     }
     answer
