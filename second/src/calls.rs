@@ -1,8 +1,8 @@
 //! The calls that change the table.
 
 use crate::element::{self, Cause, Kind, Operation, Refusal};
-use crate::filter::{row_is_empty, Filter, Octets256, Row};
-use crate::table::{in_connection, Bearer, Role, Table, LARGEST_TRANSACTION};
+use crate::filter::{row_is_empty, Filter, Octets256, Row, PLACES};
+use crate::table::{identities, in_connection, Role, Table, LARGEST_TRANSACTION};
 
 pub const NOT_WELL_FORMED: u8 = 1;
 pub const NOT_OPEN: u8 = 3;
@@ -147,22 +147,24 @@ fn empties(operation: &Operation, row: &Row) -> bool {
 
 /// What an accepted operation does to the bearer's connection.
 fn lay(table: &mut Table, bearer: u8, default: u8, operation: &Operation) -> Answer {
-    change_row(table.bearer_mut(bearer).unwrap(), operation);
+    table.change_row(default, bearer, |row| change(row, operation));
     let new = New::of(bearer, operation);
     let conflicts = conflicting_bearers(table, default, &new);
     if conflicts >> default & 1 == 1 {
         return release(table, default);
     }
-    remove_conflicts(table, conflicts, &new);
+    for bearer in identities().filter(|identity| conflicts >> identity & 1 == 1) {
+        table.change_row(default, bearer, |row| new.remove_conflicts_in(bearer, row));
+    }
     Answer::Accept { bearer, follow_up: conflicts }
 }
 
-fn change_row(bearer: &mut Bearer, operation: &Operation) {
+fn change(row: &mut Row, operation: &Operation) {
     match operation.kind {
-        Kind::Create => bearer.row = operation.row,
-        Kind::Add | Kind::Replace => overlay(&mut bearer.row, &operation.row),
-        Kind::DeleteTft => bearer.clear_row(),
-        Kind::DeleteFilters => delete(&mut bearer.row, operation.identifiers),
+        Kind::Create => *row = operation.row,
+        Kind::Add | Kind::Replace => overlay(row, &operation.row),
+        Kind::DeleteTft => *row = [Filter::default(); PLACES],
+        Kind::DeleteFilters => delete(row, operation.identifiers),
         Kind::None => {}
     }
 }
@@ -215,12 +217,6 @@ impl New<'_> {
 fn conflicting_bearers(table: &Table, default: u8, new: &New) -> Identities {
     let connection = table.numbered().filter(|(i, b)| in_connection(default, *i, b.role));
     connection.filter(|(i, b)| new.conflicts_in(*i, &b.row)).fold(0, |set, (i, _)| set | 1 << i)
-}
-
-fn remove_conflicts(table: &mut Table, conflicts: Identities, new: &New) {
-    for (identity, bearer) in table.numbered_mut().filter(|(i, _)| conflicts >> i & 1 == 1) {
-        new.remove_conflicts_in(identity, &mut bearer.row);
-    }
 }
 
 /// A conflict on the default: the whole connection goes with its transactions.

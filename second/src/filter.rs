@@ -1,5 +1,7 @@
 //! Packet filters, their components, and when a filter fits a packet.
 
+use std::iter::successors;
+
 pub const LARGEST_LABEL: u32 = 1_048_575;
 pub const LARGEST_DIRECTION: u8 = 3;
 pub const DOWNLINK_ONLY: u8 = 1;
@@ -207,8 +209,9 @@ impl Filter {
         self.held == 0 && self.precedence == 0 && self.direction == 0
     }
 
+    /// "Uplink filters have direction 0, 2 or 3": no other, also where a table by hand has one.
     pub fn is_uplink(&self) -> bool {
-        self.direction != DOWNLINK_ONLY
+        self.direction != DOWNLINK_ONLY && self.direction <= LARGEST_DIRECTION
     }
 
     /// "it comes back unchanged where the type is held already, is excluded by one held, or is a flow label above 1048575"
@@ -375,7 +378,7 @@ pub fn row_is_empty(row: &Row) -> bool {
 }
 
 /// A set of numbers 0 to 255.
-#[derive(Clone, Copy, Default)]
+#[derive(Clone, Copy, PartialEq, Eq, Debug, Default)]
 pub struct Octets256([u64; 4]);
 
 impl Octets256 {
@@ -389,6 +392,26 @@ impl Octets256 {
         self.0[usize::from(number >> 6)] |= 1 << (number & 63);
         new
     }
+
+    pub fn remove(&mut self, number: u8) {
+        self.0[usize::from(number >> 6)] &= !(1 << (number & 63));
+    }
+
+    pub fn is_within(&self, other: &Octets256) -> bool {
+        self.0.iter().zip(other.0).all(|(own, others)| own & !others == 0)
+    }
+
+    /// Rising.
+    pub fn numbers(&self) -> impl Iterator<Item = u8> + '_ {
+        (0..4).flat_map(|word| bits(self.0[usize::from(word)]).map(move |bit| word << 6 | bit))
+    }
+}
+
+/// The positions of the bits that are 1, rising.
+fn bits(word: u64) -> impl Iterator<Item = u8> {
+    let without_lowest = |left: &u64| Some(left & left.wrapping_sub(1));
+    let left = successors(Some(word), without_lowest).take_while(|left| *left != 0);
+    left.map(|left| left.trailing_zeros() as u8)
 }
 
 #[cfg(test)]

@@ -5,11 +5,10 @@ mod places;
 
 use std::iter::{once, repeat};
 
-use crate::element::filters_in;
 use crate::filter::{Header, Type, SCTP};
 use crate::lines::{Line, LONGEST_LINE};
 use crate::portions::Unsound;
-use crate::route::least_that_fits;
+use crate::route::first_that_fits;
 use crate::script::{asked, Asked, Call};
 use crate::session::Session;
 use crate::table::Table;
@@ -214,11 +213,8 @@ impl Standing {
 
 impl Decider {
     fn of(table: &Table, default: u8, header: &Header) -> Decider {
-        let filter = least_that_fits(table, default, header).and_then(|(precedence, bearer)| {
-            let (_, filter) =
-                filters_in(&table.bearer(bearer)?.row).find(|(_, f)| f.precedence == precedence)?;
-            Some(filter)
-        });
+        let decides = first_that_fits(table, default, header);
+        let filter = decides.and_then(|(_, entry)| table.filter(&entry));
         match filter {
             None => Decider::NoFilter,
             Some(filter) if !filter.holds_ports() => Decider::NoPorts,

@@ -6,6 +6,7 @@ pub mod filter;
 pub mod forms;
 pub mod generator;
 pub mod lines;
+pub mod list;
 pub mod messages;
 pub mod portions;
 pub mod random;

@@ -2,6 +2,7 @@
 
 use crate::element::{component_of, Kind};
 use crate::filter::{Component, Filter, Header, Type};
+use crate::list::Entry;
 use crate::messages;
 use crate::portions::Portions;
 use crate::table::Role;
@@ -66,6 +67,7 @@ pub enum Call {
     Start { transaction: u8, bearer: u8 },
     Reject { transaction: u8, cause: u8 },
     Route { default: u8, header: Header },
+    Why { default: u8, header: Header },
     Check,
     Status { size: usize },
     Synchronise { octets: Octets },
@@ -85,6 +87,8 @@ pub enum Call {
     Emit { size: usize },
     Force { bearer: u8, role: Role, transaction: u8 },
     Place { bearer: u8, identifier: u8, filter: Filter },
+    List { identity: u8 },
+    ForceEntry { identity: u8, position: u8, entry: Option<Entry> },
     Show,
     Echo { on: bool },
 }
@@ -150,7 +154,7 @@ impl<'a> Words<'a> {
         self.number(LARGEST_BUFFER as u32).map(|n| n as usize)
     }
 
-    /// A bearer of the table, for the lines that reach into it by hand.
+    /// A bearer of the table, for the lines that reach into it by hand or look at what is held there.
     fn bearer(&mut self) -> Option<u8> {
         self.octet().filter(|identity| (5..=15).contains(identity))
     }
@@ -246,6 +250,11 @@ fn call(words: &mut Words) -> Option<Call> {
             let (bearer, identifier) = (words.bearer()?, words.place()?);
             Some(Call::Place { bearer, identifier, filter: filter(words)? })
         }
+        b"list" => Some(Call::List { identity: words.bearer()? }),
+        b"force-entry" => {
+            let (identity, position) = (words.bearer()?, words.octet()?);
+            Some(Call::ForceEntry { identity, position, entry: entry(words)? })
+        }
         b"show" => Some(Call::Show),
         b"echo" => Some(Call::Echo { on: switch(words.next()?)? }),
         name => table_call(name, words),
@@ -268,6 +277,7 @@ fn table_call(name: &[u8], words: &mut Words) -> Option<Call> {
         b"start" => Some(Call::Start { transaction: words.octet()?, bearer: words.octet()? }),
         b"reject" => Some(Call::Reject { transaction: words.octet()?, cause: words.octet()? }),
         b"route" => Some(Call::Route { default: words.octet()?, header: header(words)? }),
+        b"why" => Some(Call::Why { default: words.octet()?, header: header(words)? }),
         b"check" => Some(Call::Check),
         b"status" => Some(Call::Status { size: words.size()? }),
         b"synchronise" => Some(Call::Synchronise { octets: words.octets()? }),
@@ -332,6 +342,15 @@ fn force(words: &mut Words) -> Option<Call> {
         _ => return None,
     };
     Some(Call::Force { bearer, role, transaction: words.octet()? })
+}
+
+/// `E I`, both 0 for nothing.
+fn entry(words: &mut Words) -> Option<Option<Entry>> {
+    match (words.octet()?, words.place()?) {
+        (0, 0) => Some(None),
+        (bearer @ 5..=15, identifier) => Some(Some(Entry { bearer, identifier })),
+        _ => None,
+    }
 }
 
 /// `A F HEX`, as long as a state has room for it.

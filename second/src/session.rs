@@ -21,6 +21,8 @@ pub struct Session {
     reply: Text,
 }
 
+const WITHIN: &str = "the script takes 5 to 15";
+
 /// What a buffer holds before the writer comes.
 const BEFORE: u8 = 0xEE;
 
@@ -74,6 +76,7 @@ impl Session {
         match call {
             Call::Check => check(&self.table, out),
             Call::Route { default, header } => text::route(out, &route::route(&self.table, *default, header)),
+            Call::Why { default, header } => text::why(out, &route::why(&self.table, *default, header)),
             Call::Status { size } => written(*size, out, |buffer| status::write(&self.table, buffer)),
             Call::Synchronise { octets } => synchronise(&mut self.table, octets.slice(), out),
             Call::Compare { octets } => compare(&self.table, octets.slice(), out),
@@ -91,7 +94,8 @@ impl Session {
             Call::Compose { .. } | Call::Filter { .. } | Call::Identifier { .. } | Call::Emit { .. } => {
                 return self.compose(call, out);
             }
-            Call::Force { .. } | Call::Place { .. } => self.by_hand(call, out),
+            Call::Force { .. } | Call::Place { .. } | Call::ForceEntry { .. } => self.by_hand(call, out),
+            Call::List { identity } => text::list(out, self.table.list(*identity).expect(WITHIN)),
             Call::Show => text::table(out, &self.table),
             Call::Echo { on } => self.switch_echo(*on, out),
             _ => text::answer(out, &self.answer(call)?),
@@ -161,17 +165,22 @@ impl Session {
     fn by_hand(&mut self, call: &Call, out: &mut Text) {
         match *call {
             Call::Force { bearer, role, transaction } => {
-                let forced = self.table.bearer_mut(bearer).expect("the script takes 5 to 15");
+                let forced = self.table.bearer_mut(bearer).expect(WITHIN);
                 forced.role = role;
                 forced.transaction = transaction;
+                self.table.list_anew();
                 text::line(out, "forced ", bearer);
             }
             Call::Place { bearer, identifier, filter } => {
-                let row = &mut self.table.bearer_mut(bearer).expect("the script takes 5 to 15").row;
-                row[usize::from(identifier)] = filter;
+                self.table.bearer_mut(bearer).expect(WITHIN).row[usize::from(identifier)] = filter;
+                self.table.list_anew();
                 text::words(out, "placed ");
                 text::number(out, bearer);
                 text::line(out, " ", identifier);
+            }
+            Call::ForceEntry { identity, position, entry } => {
+                self.table.list_mut(identity).expect(WITHIN).set(position, entry);
+                text::words(out, "forced-entry\n");
             }
             _ => unreachable!("no call by hand"),
         }

@@ -52,10 +52,9 @@ fn shown(table: &Table, octets: &[u8]) -> Result<Identities, u8> {
 pub fn synchronise(table: &mut Table, octets: &[u8]) -> Result<Identities, u8> {
     let shown = shown(table, octets)?;
     let goes = |identity, bearer: &Bearer| !bearer.is_idle() && !stays(shown, identity, bearer.role);
-    let mut gone = 0;
-    for (identity, bearer) in table.numbered_mut().filter(|(i, b)| goes(*i, b)) {
-        bearer.make_idle();
-        gone |= 1 << identity;
+    let gone = table.numbered().filter(|(i, b)| goes(*i, b)).fold(0, |set, (i, _)| set | 1 << i);
+    for identity in identities().filter(|identity| has(gone, *identity)) {
+        table.deactivate(identity);
     }
     Ok(gone)
 }

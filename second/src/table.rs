@@ -1,6 +1,8 @@
-//! The bearer table and when it is well formed.
+//! The bearer table with the lists that it holds, and when it is well formed.
 
+use crate::element::filters_in;
 use crate::filter::{row_is_empty, Filter, Octets256, Row, PLACES};
+use crate::list::{Entry, List};
 
 pub const LOWEST_IDENTITY: u8 = 5;
 pub const BEARERS: usize = 11;
@@ -37,18 +39,16 @@ impl Bearer {
         self.transaction == 0 && row_is_empty(&self.row)
     }
 
-    pub fn clear_row(&mut self) {
-        self.row = [Filter::default(); PLACES];
-    }
-
     pub fn make_idle(&mut self) {
         *self = Bearer::default();
     }
 }
 
+/// A list is held for each identity. By the rule those of identities that are no active default are empty.
 #[derive(Clone, Copy, PartialEq, Eq, Debug, Default)]
 pub struct Table {
     bearers: [Bearer; BEARERS],
+    lists: [List; BEARERS],
 }
 
 /// The identities 5 to 15.
@@ -67,6 +67,12 @@ impl Table {
         Some(&self.bearers[index(identity)?])
     }
 
+    /// The place that an entry of a list names.
+    pub fn filter(&self, entry: &Entry) -> Option<&Filter> {
+        self.bearer(entry.bearer)?.row.get(usize::from(entry.identifier))
+    }
+
+    /// What is changed here is not listed.
     pub fn bearer_mut(&mut self, identity: u8) -> Option<&mut Bearer> {
         Some(&mut self.bearers[index(identity)?])
     }
@@ -75,8 +81,13 @@ impl Table {
         identities().zip(&self.bearers)
     }
 
-    pub fn numbered_mut(&mut self) -> impl Iterator<Item = (u8, &mut Bearer)> {
-        identities().zip(&mut self.bearers)
+    /// The held list of an identity, where there is one: 5 to 15.
+    pub fn list(&self, identity: u8) -> Option<&List> {
+        Some(&self.lists[index(identity)?])
+    }
+
+    pub fn list_mut(&mut self, identity: u8) -> Option<&mut List> {
+        Some(&mut self.lists[index(identity)?])
     }
 
     pub fn is_active(&self, identity: u8) -> bool {
@@ -111,22 +122,57 @@ impl Table {
         }
     }
 
+    /// Changes the filters of a bearer of a connection, and the connection's list with them.
+    pub fn change_row(&mut self, default: u8, bearer: u8, change: impl FnOnce(&mut Row)) {
+        let list = &mut self.lists[index(default).unwrap()];
+        let row = &mut self.bearers[index(bearer).unwrap()].row;
+        take_off(list, bearer, row);
+        change(row);
+        put_on(list, bearer, row);
+    }
+
     /// A bearer goes, with its filters and its transaction; a default takes its connection along.
     pub fn deactivate(&mut self, identity: u8) {
         match self.bearer(identity).map(|bearer| bearer.role) {
             Some(Role::Default) => self.deactivate_connection(identity),
-            Some(Role::Dedicated { .. }) => self.bearer_mut(identity).unwrap().make_idle(),
+            Some(Role::Dedicated { link }) => self.deactivate_dedicated(link, identity),
             Some(Role::Idle) | None => {}
         }
     }
 
+    fn deactivate_dedicated(&mut self, link: u8, identity: u8) {
+        self.change_row(link, identity, |row| *row = [Filter::default(); PLACES]);
+        self.bearer_mut(identity).unwrap().make_idle();
+    }
+
     pub fn deactivate_connection(&mut self, default: u8) {
         let gone = |identity, bearer: &Bearer| in_connection(default, identity, bearer.role);
-        self.numbered_mut().filter(|(i, b)| gone(*i, b)).for_each(|(_, b)| b.make_idle());
+        let bearers = identities().zip(&mut self.bearers);
+        bearers.filter(|(i, b)| gone(*i, b)).for_each(|(_, b)| b.make_idle());
+        *self.list_mut(default).unwrap() = List::default();
+    }
+
+    /// Makes every held list what the rule gives, whatever it was. Of one precedence twice in a connection the filter of the higher bearer, then
+    /// of the higher identifier, is listed.
+    pub fn list_anew(&mut self) {
+        self.lists = [List::default(); BEARERS];
+        for (bearer, held) in identities().zip(&self.bearers) {
+            let default = connection_of(bearer, held.role).filter(|default| self.is_active_default(*default));
+            if let Some(default) = default.and_then(index) {
+                put_on(&mut self.lists[default], bearer, &held.row);
+            }
+        }
+    }
+
+    /// The same bearers with the lists that the rule gives.
+    pub fn listed_anew(&self) -> Table {
+        let mut table = *self;
+        table.list_anew();
+        table
     }
 
     pub fn is_well_formed(&self) -> bool {
-        self.roles_are_right() && self.transactions_are_right() && self.filters_are_right()
+        self.roles_are_right() && self.transactions_are_right() && self.filters_and_lists_are_right()
     }
 
     /// Each is idle and holds nothing, or a default, or dedicated and linked to an active default.
@@ -145,19 +191,44 @@ impl Table {
         open.all(|transaction| transaction <= LARGEST_TRANSACTION && seen.add(transaction))
     }
 
-    /// Every filter is well coded and fits some packet, and precedences are distinct within a connection.
-    fn filters_are_right(&self) -> bool {
+    /// Every filter is well coded and fits some packet, precedences are distinct within a connection, and a list has its connection's uplink
+    /// filters and nothing else.
+    fn filters_and_lists_are_right(&self) -> bool {
         let mut seen = [Octets256::default(); BEARERS];
-        self.numbered().all(|(identity, bearer)| {
+        let rows_are_right = self.numbered().all(|(identity, bearer)| {
             let connection = connection_of(identity, bearer.role).and_then(index);
-            connection.is_none_or(|i| row_is_right(&bearer.row, &mut seen[i]))
-        })
+            connection.is_none_or(|i| row_is_right(identity, &bearer.row, &mut seen[i], &self.lists[i]))
+        });
+        rows_are_right && self.lists.iter().zip(&seen).all(|(list, seen)| list.names_none_beside(seen))
     }
 }
 
-fn row_is_right(row: &Row, precedences: &mut Octets256) -> bool {
-    let mut filters = row.iter().filter(|filter| !filter.is_nothing());
-    filters.all(|filter| filter.is_sound() && precedences.add(filter.precedence))
+fn row_is_right(bearer: u8, row: &Row, precedences: &mut Octets256, list: &List) -> bool {
+    filters_in(row).all(|(identifier, filter)| {
+        filter.is_sound()
+            && precedences.add(filter.precedence)
+            && list.has(filter.precedence, listed(bearer, identifier, filter))
+    })
+}
+
+/// What the list of its connection has for a filter at its precedence: nothing for one that is downlink only.
+fn listed(bearer: u8, identifier: usize, filter: &Filter) -> Option<Entry> {
+    filter.is_uplink().then_some(Entry { bearer, identifier: identifier as u8 })
+}
+
+fn put_on(list: &mut List, bearer: u8, row: &Row) {
+    for (identifier, filter) in filters_in(row).filter(|(_, filter)| filter.is_uplink()) {
+        list.set(filter.precedence, listed(bearer, identifier, filter));
+    }
+}
+
+/// A position that names another filter by now is left.
+fn take_off(list: &mut List, bearer: u8, row: &Row) {
+    for (identifier, filter) in filters_in(row) {
+        if list.has(filter.precedence, listed(bearer, identifier, filter)) {
+            list.set(filter.precedence, None);
+        }
+    }
 }
 
 /// The default of the connection to which a bearer of this role belongs.

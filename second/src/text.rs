@@ -3,8 +3,9 @@
 use crate::calls::{Answer, Identities, Rejection};
 use crate::element::{filters_in, Kind, Operation, Refusal};
 use crate::filter::{Component, Filter, Row};
+use crate::list::{Entry, List};
 use crate::messages::{self, Message};
-use crate::route::Route;
+use crate::route::{Route, Why};
 use crate::status::Comparison;
 use crate::table::{identities, Bearer, Role, Table};
 
@@ -119,6 +120,29 @@ pub fn route(text: &mut Text, route: &Route) {
         Route::Bearer(bearer) => line(text, "bearer ", bearer),
         Route::Discard => words(text, "discard\n"),
     }
+}
+
+pub fn why(text: &mut Text, why: &Why) {
+    match *why {
+        Why::Refused(number) => line(text, "refused ", number),
+        Why::Filter { precedence, entry: Entry { bearer, identifier } } => {
+            two(text, "bearer ", bearer, " filter ", identifier);
+            line(text, " precedence ", precedence);
+        }
+        Why::Default(bearer) => {
+            one(text, "bearer ", bearer);
+            words(text, " default\n");
+        }
+        Why::Discard => words(text, "discard\n"),
+    }
+}
+
+pub fn list(text: &mut Text, list: &List) {
+    for (position, Entry { bearer, identifier }) in list.entries() {
+        two(text, "position ", position, " bearer ", bearer);
+        line(text, " identifier ", identifier);
+    }
+    words(text, "end\n");
 }
 
 pub fn kind(kind: Kind) -> &'static str {

@@ -58,6 +58,7 @@ fn table(filter: Filter) -> Table {
     let dedicated = table.bearer_mut(DEDICATED).unwrap();
     dedicated.role = Role::Dedicated { link: DEFAULT };
     dedicated.row[usize::from(IDENTIFIER)] = filter;
+    table.list_anew();
     table
 }
 

@@ -134,6 +134,7 @@ mod tests {
                 let row = &mut swapped.bearer_mut(identity).unwrap().row;
                 *row = row.map(|filter| self.filter(&filter));
             }
+            swapped.list_anew();
             swapped
         }
 
