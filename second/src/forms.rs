@@ -1,5 +1,6 @@
 //! The forms that a reply can take, and how often each stands in an output.
 
+mod lists;
 mod messages;
 mod places;
 
@@ -16,8 +17,8 @@ use crate::text::Text;
 use messages::About;
 use places::Broken;
 
-/// Every form that the bench language has but for those of messages and those with a place, numbers and lists left out but for those that are
-/// the point of the reply.
+/// Every form that the bench language has but for those of messages, of held lists and those with a place, numbers and lists left out but for
+/// those that are the point of the reply.
 pub const FORMS: [&str; 122] = [
     "accept",
     "accept follow-up",
@@ -144,7 +145,10 @@ pub const FORMS: [&str; 122] = [
 ];
 
 /// The lines whose replies are counted apart, since others give some of the same.
-const COUNTED_APART: [&str; 14] = [
+const COUNTED_APART: [&str; 17] = [
+    "list",
+    "force-entry",
+    "why",
     "parse",
     "message",
     "assemble",
@@ -167,22 +171,25 @@ const TAKE_FED: [&str; 4] = ["element", "rewrite", "modify", "dedicated"];
 const LEAST: usize = 10;
 
 /// A line of output that is a reply or part of one, the word of the line that it replies to, and what stood when it came. Of a reply of
-/// many lines the first alone has a word: filters read the same whatever line they are for.
+/// many lines the first alone has a word: filters read the same whatever line they are for. `beside` are the forms that it counts for
+/// besides its own.
 #[derive(Clone, PartialEq, Eq, Debug)]
 pub struct Reply {
     word: String,
     standing: Standing,
     line: String,
+    beside: Vec<String>,
 }
 
 /// What tells replies apart that read the same: what is wrong with the state of portions, what decides the route of an SCTP packet, what a
-/// message says, and what is wrong with an element.
+/// message says, what is wrong with an element, and what a held list has.
 #[derive(Clone, PartialEq, Eq, Debug)]
 struct Standing {
     unsound: Option<Unsound>,
     sctp: Option<Decider>,
     about: Option<About>,
     broken: Option<Broken>,
+    held: Option<lists::About>,
 }
 
 /// The kind of filter that decides a route.
@@ -196,10 +203,11 @@ enum Decider {
 
 impl Standing {
     fn before(session: &Session, line: &[u8]) -> Standing {
-        let (mut sctp, mut about, mut broken) = (None, None, None);
+        let (mut sctp, mut about, mut broken, mut held) = (None, None, None, None);
         if let Asked::Call { times, call } = asked(line) {
             about = About::of(&call, times, &session.table);
             broken = Broken::of(&call, &session.portions);
+            held = lists::About::of(&call, &session.table);
             sctp = match call {
                 Call::Route { default, header } if header.protocol == SCTP => {
                     Some(Decider::of(&session.table, default, &header))
@@ -207,7 +215,7 @@ impl Standing {
                 _ => None,
             };
         }
-        Standing { unsound: session.portions.unsound(), sctp, about, broken }
+        Standing { unsound: session.portions.unsound(), sctp, about, broken, held }
     }
 }
 
@@ -234,6 +242,10 @@ impl Decider {
 }
 
 impl Reply {
+    fn forms(&self) -> impl Iterator<Item = String> + '_ {
+        once(self.form()).chain(self.beside.iter().cloned())
+    }
+
     fn form(&self) -> String {
         let form = match self.standing.broken {
             Some(broken) => broken.form(&self.word, &form(&self.line)),
@@ -247,6 +259,9 @@ impl Reply {
         }
         if let Some(about) = self.standing.about.as_ref().filter(|_| form != "bad line") {
             return about.form(&form);
+        }
+        if let Some(held) = self.standing.held.filter(|_| form != "bad line") {
+            return held.form(&form);
         }
         let fed = self.word.ends_with(" fed");
         match form.as_str() {
@@ -315,6 +330,9 @@ fn form(line: &str) -> String {
         ["placed" | "wrote", _, _] => words[0].to_string(),
         ["reject", _, why @ ..] => format!("reject {}", why.join(" ")),
         ["bearer", _, role, .., "transaction", _] => format!("bearer {role}"),
+        ["bearer", _, "filter", _, "precedence", precedence] => format!("bearer by filter {precedence}"),
+        ["bearer", _, "default"] => "bearer by default".to_string(),
+        ["position", _, "bearer", _, "identifier", _] => "position".to_string(),
         ["delete-filters", _, ..] => "delete-filters".to_string(),
         ["filter", _, "precedence", _, "direction", _, components @ ..] => match sctp_ports(components) {
             Some(_) => "filter SCTP ports".to_string(),
@@ -367,33 +385,38 @@ fn lists_form(words: &[&str]) -> String {
 /// All that a script gives, and the replies in it alone. An echoed line may read like a reply, so the two are told apart as they are made.
 pub fn played(mut script: &[u8]) -> (Text, Vec<Reply>) {
     let (mut session, mut line) = (Session::default(), Line::new(LONGEST_LINE));
-    let (mut output, mut replies) = (Text::new(), Vec::new());
+    let (mut output, mut replies, mut watch) = (Text::new(), Vec::new(), lists::Watch::default());
     while line.next(&mut script).expect("a slice is read") {
         session.write_echo(&line.octets, line.is_too_long(), &mut output);
         let (start, standing) = (output.len(), Standing::before(&session, &line.octets));
+        let (table, portions) = (session.table, session.portions);
         session.do_line(line.number, &line.octets, line.is_too_long(), &mut output);
-        replies.extend(replies_in(&output[start..], &line.octets, standing));
+        let reply = String::from_utf8_lossy(&output[start..]);
+        let beside = match asked(&line.octets) {
+            Asked::Call { call, .. } => watch.beside(&call, &portions, [&table, &session.table], &reply),
+            _ => Vec::new(),
+        };
+        replies.extend(replies_in(&reply, &line.octets, standing, beside));
     }
     (output, replies)
 }
 
-fn replies_in(output: &[u8], asked: &[u8], standing: Standing) -> Vec<Reply> {
-    let lines = String::from_utf8_lossy(output);
-    let words = once(word(asked)).chain(repeat(String::new()));
-    let reply = |(line, word): (&str, String)| {
+fn replies_in(reply: &str, asked: &[u8], standing: Standing, beside: Vec<String>) -> Vec<Reply> {
+    let words = once((word(asked), beside)).chain(repeat((String::new(), Vec::new())));
+    let reply_of = |(line, (word, beside)): (&str, (String, Vec<String>))| {
         let standing = standing.clone();
-        Reply { word, standing, line: line.to_string() }
+        Reply { word, standing, line: line.to_string(), beside }
     };
-    lines.lines().zip(words).map(reply).collect()
+    reply.lines().zip(words).map(reply_of).collect()
 }
 
 fn all_forms() -> impl Iterator<Item = &'static str> {
-    FORMS.into_iter().chain(places::FORMS).chain(messages::FORMS)
+    FORMS.into_iter().chain(places::FORMS).chain(messages::FORMS).chain(lists::FORMS)
 }
 
 /// How often each form stands in replies, and what is wrong: lines of no form, and forms too rare.
 pub fn count(replies: &[Reply]) -> (Vec<(&'static str, usize)>, Vec<String>) {
-    let forms: Vec<String> = replies.iter().map(Reply::form).collect();
+    let forms: Vec<String> = replies.iter().flat_map(Reply::forms).collect();
     let times = |wanted: &str| forms.iter().filter(|form| *form == wanted).count();
     let counts: Vec<(&str, usize)> = all_forms().map(|wanted| (wanted, times(wanted))).collect();
     let unknown = forms.iter().filter(|form| !all_forms().any(|known| known == *form));
@@ -412,7 +435,7 @@ mod tests {
     #[test]
     fn generated_scripts_show_every_form_often_enough() {
         for seed in [0, 1, 2, 3, 4, 20260401] {
-            let (_, wrong) = count(&played(&script(seed, 23_600)).1);
+            let (_, wrong) = count(&played(&script(seed, 25_100)).1);
             assert!(wrong.is_empty(), "seed {seed}:\n{}", wrong.join("\n"));
         }
     }

@@ -24,7 +24,7 @@ fn replies(mut input: &[u8], echo: bool) -> Vec<u8> {
 fn stored_session_is_cases_and_generated_lines() {
     let cases = read(root().join("second/stored/cases.txt")).unwrap();
     let stored = read(root().join("crates/session/stdin")).unwrap();
-    assert!(stored == [cases, script(20260401, 23_600)].concat(), "second/store makes another input");
+    assert!(stored == [cases, script(20260401, 25_100)].concat(), "second/store makes another input");
     let output = read(root().join("crates/session/stdout")).unwrap();
     assert!(output == replies(&stored, false), "second/store makes another output");
 }

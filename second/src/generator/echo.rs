@@ -23,7 +23,7 @@ impl Generator {
     }
 
     fn echoed_line(&mut self) {
-        match self.random.weighted(&[12, 4, 4, 3, 8, 8, 2, 2, 2, 2, 1]) {
+        match self.random.weighted(&[12, 4, 4, 3, 8, 8, 2, 2, 2, 2, 2, 1]) {
             0 => self.table_call(),
             1 => self.element_line(),
             2 => self.repeated(),
@@ -34,6 +34,7 @@ impl Generator {
             7 => self.bad_echo(),
             8 => self.portion_call(),
             9 => self.message_call(),
+            10 => self.list_call(),
             _ => self.echo("on"),
         }
     }

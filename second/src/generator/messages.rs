@@ -500,7 +500,7 @@ mod tests {
     fn messages_come_with_all_that_is_listed() {
         for seed in [0, 1, 20260401] {
             let mut watch = Watch::default();
-            for line in script(seed, 23_600).split(|octet| *octet == b'\n') {
+            for line in script(seed, 25_100).split(|octet| *octet == b'\n') {
                 watch.line(line.strip_suffix(b"\r").unwrap_or(line));
             }
             let times = |situation: &str| watch.seen.get(situation).copied().unwrap_or(0);

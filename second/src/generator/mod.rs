@@ -5,15 +5,17 @@ mod drafts;
 mod echo;
 mod elements;
 mod headers;
+mod lists;
 mod messages;
 mod places;
 mod portions;
 mod ports;
 mod rubbish;
+mod spoils;
 mod status;
 
 use crate::element::Kind;
-use crate::filter::{Filter, PLACES};
+use crate::filter::{Filter, Header, PLACES};
 use crate::random::Random;
 use crate::session::Session;
 use crate::table::{connection_of, identities, Role, Table};
@@ -50,6 +52,8 @@ struct Generator {
     repeat: Option<usize>,
     still_to_come: messages::StillToCome,
     places_to_come: Vec<places::Plan>,
+    lists_to_come: lists::StillToCome,
+    spoils_to_come: spoils::StillToCome,
 }
 
 impl Generator {
@@ -63,6 +67,8 @@ impl Generator {
             repeat: None,
             still_to_come: messages::StillToCome::default(),
             places_to_come: Vec::new(),
+            lists_to_come: lists::StillToCome::default(),
+            spoils_to_come: spoils::StillToCome::default(),
         }
     }
 
@@ -70,7 +76,7 @@ impl Generator {
         if self.session.echo && self.random.one_in(20) {
             self.echo("off");
         }
-        match self.random.weighted(&[64, 14, 5, 2, 3, 4, 2, 1, 1, 5, 17, 7]) {
+        match self.random.weighted(&[58, 13, 5, 2, 3, 4, 2, 1, 1, 5, 17, 7, 6]) {
             0 => self.table_call(),
             1 => self.element_line(),
             2 => self.compose(),
@@ -82,8 +88,10 @@ impl Generator {
             8 => self.look_or_reset(),
             9 => self.portions(),
             10 => self.messages(),
-            _ => self.places(),
+            11 => self.places(),
+            _ => self.lists(),
         }
+        self.mend();
         if !self.session.table.is_well_formed() {
             self.clear();
         }
@@ -183,7 +191,7 @@ impl Generator {
 
     fn table_call(&mut self) {
         let (more_defaults, more_status) = match self.bearers(|role| role == Role::Default).len() {
-            0 => (60, 48),
+            0 => (60, 60),
             1 => (4, 6),
             _ => (1, 6),
         };
@@ -247,14 +255,26 @@ impl Generator {
 
     fn route(&mut self) {
         let default = self.default();
+        let words = self.header_words(default);
+        self.say(&format!("route {default} {words}"));
+        if self.random.one_in(12) {
+            self.say(&format!("why {default} {words}"));
+        }
+    }
+
+    fn header_words(&mut self, default: u8) -> String {
+        let header = self.header_near(default);
+        headers::words(&mut self.random, &header)
+    }
+
+    /// That fits a filter of the connection, or misses it by little.
+    fn header_near(&mut self, default: u8) -> Header {
         let fits = |(identity, role)| connection_of(identity, role) == Some(default);
         let of_connection = self.table().numbered().filter(|(i, b)| fits((*i, b.role)));
         let filters: Vec<Filter> =
             of_connection.flat_map(|(_, b)| b.row).filter(|filter| !filter.is_nothing()).collect();
         let close_to = self.random.any(&filters).unwrap_or_default();
-        let header = headers::close_to(&mut self.random, &close_to);
-        let words = headers::words(&mut self.random, &header);
-        self.say(&format!("route {default} {words}"));
+        headers::close_to(&mut self.random, &close_to)
     }
 
     fn kind(&mut self) -> Kind {
@@ -382,12 +402,13 @@ impl Generator {
 
     fn repeated(&mut self) {
         self.repeat = Some(1 + self.random.below(12));
-        match self.random.below(8) {
+        match self.random.below(9) {
             0..=2 => self.table_call(),
             3 => self.element_line(),
             4 => self.emit(),
             5 => self.portion_call(),
             6 => self.message_call(),
+            7 => self.list_call(),
             _ => self.look_or_reset(),
         }
         self.repeat = None;
@@ -412,6 +433,9 @@ impl Generator {
             } else {
                 self.place();
             }
+        }
+        if self.random.one_in(3) {
+            self.list_any();
         }
         if self.table().is_well_formed() {
             return;
@@ -498,6 +522,7 @@ impl Generator {
     fn clear(&mut self) {
         while !self.table().is_well_formed() {
             self.put_back(&Table::default());
+            self.mend();
         }
     }
 }

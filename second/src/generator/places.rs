@@ -499,7 +499,7 @@ mod tests {
     fn elements_break_in_every_way() {
         for seed in [0, 1, 20260401] {
             let mut seen = BTreeMap::<&str, usize>::new();
-            for (value, place) in refused(&script(seed, 23_600)) {
+            for (value, place) in refused(&script(seed, 25_100)) {
                 for situation in situations(&value, place) {
                     assert!(SITUATIONS.contains(&situation), "{situation}");
                     *seen.entry(situation).or_default() += 1;

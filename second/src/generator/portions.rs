@@ -489,7 +489,7 @@ mod tests {
     fn elements_arrive_split_in_every_way() {
         for seed in [0, 1, 20260401] {
             let mut watch = Watch::default();
-            for (number, line) in script(seed, 23_600).split(|octet| *octet == b'\n').enumerate() {
+            for (number, line) in script(seed, 25_100).split(|octet| *octet == b'\n').enumerate() {
                 watch.line(number, line.strip_suffix(b"\r").unwrap_or(line));
             }
             let times = |situation: &str| watch.seen.get(situation).copied().unwrap_or(0);

@@ -198,7 +198,7 @@ mod tests {
     fn sctp_and_protocols_near_it_make_a_difference_everywhere() {
         for seed in [0, 1, 20260401] {
             let mut watch = Watch::default();
-            for (number, line) in script(seed, 23_600).split(|octet| *octet == b'\n').enumerate() {
+            for (number, line) in script(seed, 25_100).split(|octet| *octet == b'\n').enumerate() {
                 watch.line(number, line.strip_suffix(b"\r").unwrap_or(line));
             }
             assert_eq!(watch.seen.len(), 10);

@@ -78,6 +78,16 @@ const LINES: &[&str] = &[
     "assemble deactivate-accept 6 0 1 none 3",
     "assemble dedicated-request 6 0 5 - 7",
     "message fed",
+    "list 5",
+    "list 4",
+    "repeat 2 list 6",
+    "force-entry 5 10 6 1",
+    "force-entry 5 10 0 0",
+    "force-entry 5 10 0 1",
+    "repeat 3 force-entry 6 0 0 0",
+    "why 5 4 192.0.2.1 17 1000 5060 0 0 0",
+    "why 6 6 20010DB8000000000000000000000001 6 80 443 0 0 7",
+    "repeat 2 why 5 4 192.0.2.1 132 1000 5060 0 0 0",
 ];
 
 const BAD_ECHOES: &[&str] = &[
@@ -273,7 +283,7 @@ pub fn bad_portion(random: &mut Random) -> String {
         0 => format!("portion {}", "A5".repeat(513 + random.below(2))),
         1 => format!("force-fed 255 255 {}", "00".repeat(256 + random.below(258))),
         _ => {
-            let near = BAD_PORTIONS[random.weighted(&[2, 2, 4, 2, 4])];
+            let near = BAD_PORTIONS[random.weighted(&[2, 2, 5, 2, 4])];
             random.pick(near).to_string()
         }
     }
@@ -363,6 +373,112 @@ pub fn bad_message(random: &mut Random) -> String {
             random.pick(near).to_string()
         }
     }
+}
+
+/// Near `list`, `force-entry` and `why`.
+const BAD_LISTS: [&[&str]; 3] = [
+    &[
+        "list",
+        "list 0",
+        "list 4",
+        "list 16",
+        "list 255",
+        "list 256",
+        "list 00000000005",
+        "list -",
+        "list -5",
+        "list 5 5",
+        "list 5 -",
+        "list 5.",
+        "list 0x5",
+        "list fed",
+        "list 5 #",
+        "list all",
+        "List 5",
+        "lists 5",
+        "listed 5",
+        "repeat list 5",
+        "repeat 2 list",
+        "repeat 2 list 4",
+        "repeat 2 list 5 5",
+        "repeat 0 list 5",
+    ],
+    &[
+        "force-entry",
+        "force-entry 5",
+        "force-entry 5 10",
+        "force-entry 5 10 6",
+        "force-entry 5 10 6 1 1",
+        "force-entry 5 10 6 1 -",
+        "force-entry 0 10 6 1",
+        "force-entry 4 10 6 1",
+        "force-entry 16 10 6 1",
+        "force-entry 256 10 6 1",
+        "force-entry 4 10 0 0",
+        "force-entry 16 10 0 0",
+        "force-entry 5 256 6 1",
+        "force-entry 5 256 0 0",
+        "force-entry 5 -1 6 1",
+        "force-entry 5 10 1 1",
+        "force-entry 5 10 1 0",
+        "force-entry 5 10 4 0",
+        "force-entry 5 10 4 15",
+        "force-entry 5 10 16 0",
+        "force-entry 5 10 255 0",
+        "force-entry 5 10 256 0",
+        "force-entry 5 10 0 1",
+        "force-entry 5 10 0 15",
+        "force-entry 5 10 0 16",
+        "force-entry 5 10 6 16",
+        "force-entry 5 10 15 255",
+        "force-entry 5 10 - -",
+        "force-entry 5 10 nothing",
+        "force-entry 5 10 6.1",
+        "force-entry 5 0x0A 6 1",
+        "Force-entry 5 10 6 1",
+        "force entry 5 10 6 1",
+        "force_entry 5 10 6 1",
+        "force-entries 5 10 6 1",
+        "forced-entry",
+        "force 5 10 6 1",
+        "repeat force-entry 5 10 0 0",
+        "repeat 2 force-entry",
+        "repeat 2 force-entry 5 10 0 1",
+        "repeat 0 force-entry 5 10 0 0",
+    ],
+    &[
+        "why",
+        "why 5",
+        "why 5 4 192.0.2.1 17 1000 5060 0 0",
+        "why 5 4 192.0.2.1 17 1000 5060 0 0 0 0",
+        "why 4 192.0.2.1 17 1000 5060 0 0 0",
+        "why 256 4 192.0.2.1 17 1000 5060 0 0 0",
+        "why 5 256 192.0.2.1 17 1000 5060 0 0 0",
+        "why 5 4 192.0.2 17 1000 5060 0 0 0",
+        "why 5 4 192.0.2.256 17 1000 5060 0 0 0",
+        "why 5 4 C0000201 17 1000 5060 0 0 0",
+        "why 5 4 - 17 1000 5060 0 0 0",
+        "why 5 4 fed 17 1000 5060 0 0 0",
+        "why 5 4 192.0.2.1 256 1000 5060 0 0 0",
+        "why 5 4 192.0.2.1 17 65536 5060 0 0 0",
+        "why 5 4 192.0.2.1 17 1000 65536 0 0 0",
+        "why 5 4 192.0.2.1 17 1000 5060 4294967296 0 0",
+        "why 5 4 192.0.2.1 17 1000 5060 0 256 0",
+        "why 5 4 192.0.2.1 17 1000 5060 0 0 4294967296",
+        "why 5 4 192.0.2.1 udp 1000 5060 0 0 0",
+        "why? 5 4 192.0.2.1 17 1000 5060 0 0 0",
+        "why route 5 4 192.0.2.1 17 1000 5060 0 0 0",
+        "route why 5 4 192.0.2.1 17 1000 5060 0 0 0",
+        "Why 5 4 192.0.2.1 17 1000 5060 0 0 0",
+        "repeat 2 why",
+        "repeat why 5 4 192.0.2.1 17 1000 5060 0 0 0",
+        "repeat 2 why 5 4 192.0.2.1 17 1000 5060 0 0",
+    ],
+];
+
+pub fn bad_list(random: &mut Random) -> &'static str {
+    let near = random.pick(&BAD_LISTS);
+    random.pick(near)
 }
 
 /// Dotted, but for something.
@@ -519,7 +635,7 @@ pub fn rubbish(seed: u64) -> Vec<u8> {
 }
 
 fn rubbish_line(random: &mut Random) -> Vec<u8> {
-    match random.below(12) {
+    match random.below(13) {
         0 => (0..random.below(300)).map(|_| random.octet()).collect(),
         1 => long_line(random),
         2 => vec![random.pick(b" #0C\0\xFF\r"); random.below(20_000)],
@@ -530,6 +646,7 @@ fn rubbish_line(random: &mut Random) -> Vec<u8> {
         7 => bad_status(random).as_bytes().to_vec(),
         8 => bad_portion(random).into_bytes(),
         9 => bad_message(random).into_bytes(),
+        10 => bad_list(random).as_bytes().to_vec(),
         _ => random.pick(LINES).as_bytes().to_vec(),
     }
 }
