@@ -205,8 +205,12 @@ impl Filter {
         self.held & kind.bit() != 0
     }
 
+    pub fn has_component(&self) -> bool {
+        self.held != 0
+    }
+
     pub fn is_nothing(&self) -> bool {
-        self.held == 0 && self.precedence == 0 && self.direction == 0
+        !self.has_component() && self.precedence == 0 && self.direction == 0
     }
 
     /// "Uplink filters have direction 0, 2 or 3": no other, also where a table by hand has one.
@@ -359,7 +363,7 @@ impl Filter {
 
     /// Whether the reader could give this filter: well coded, and some packet fits it.
     pub fn is_sound(&self) -> bool {
-        self.held != 0
+        self.has_component()
             && self.direction <= LARGEST_DIRECTION
             && self.label <= LARGEST_LABEL
             && self.fits_some_packet()

@@ -44,7 +44,7 @@ impl Bearer {
     }
 }
 
-/// A list is held for each identity. By the rule those of identities that are no active default are empty.
+/// A list is held for each identity. Where the table is well formed, those of identities that are no active default are empty.
 #[derive(Clone, Copy, PartialEq, Eq, Debug, Default)]
 pub struct Table {
     bearers: [Bearer; BEARERS],
@@ -152,14 +152,13 @@ impl Table {
         *self.list_mut(default).unwrap() = List::default();
     }
 
-    /// Makes every held list what the rule gives, whatever it was. Of one precedence twice in a connection the filter of the higher bearer, then
-    /// of the higher identifier, is listed.
+    /// Makes every held list what the rule gives, whatever it was. A dedicated bearer's filters are in the list of its link, be that an active
+    /// default or not. Of one precedence twice in a list the filter of the higher bearer, then of the higher identifier, is listed.
     pub fn list_anew(&mut self) {
         self.lists = [List::default(); BEARERS];
         for (bearer, held) in identities().zip(&self.bearers) {
-            let default = connection_of(bearer, held.role).filter(|default| self.is_active_default(*default));
-            if let Some(default) = default.and_then(index) {
-                put_on(&mut self.lists[default], bearer, &held.row);
+            if let Some(list) = connection_of(bearer, held.role).and_then(index) {
+                put_on(&mut self.lists[list], bearer, &held.row);
             }
         }
     }
@@ -211,14 +210,18 @@ fn row_is_right(bearer: u8, row: &Row, precedences: &mut Octets256, list: &List)
     })
 }
 
-/// What the list of its connection has for a filter at its precedence: nothing for one that is downlink only.
+/// What the list of its connection has for a filter at its precedence: nothing for one that is downlink only. A place without a component holds
+/// no filter, whatever precedence or direction stands in it.
 fn listed(bearer: u8, identifier: usize, filter: &Filter) -> Option<Entry> {
-    filter.is_uplink().then_some(Entry { bearer, identifier: identifier as u8 })
+    let listed = filter.has_component() && filter.is_uplink();
+    listed.then_some(Entry { bearer, identifier: identifier as u8 })
 }
 
 fn put_on(list: &mut List, bearer: u8, row: &Row) {
-    for (identifier, filter) in filters_in(row).filter(|(_, filter)| filter.is_uplink()) {
-        list.set(filter.precedence, listed(bearer, identifier, filter));
+    for (identifier, filter) in filters_in(row) {
+        if let Some(entry) = listed(bearer, identifier, filter) {
+            list.set(filter.precedence, Some(entry));
+        }
     }
 }
 

@@ -5,7 +5,6 @@ use std::collections::BTreeMap;
 use second::calls::{
     activate_dedicated, activate_default, deactivate, modify, modify_without_tft, reject, start, Answer,
 };
-use second::element::filters_in;
 use second::filter::{Component, Filter, Header};
 use second::generator::script;
 use second::lines::LONGEST_LINE;
@@ -21,10 +20,9 @@ use second::table::{identities, Role, Table};
 /// What the lists have, by identity and position.
 type Lists = BTreeMap<(u8, u8), Entry>;
 
-/// "at each precedence its uplink filter of that precedence with the bearer, or nothing", for each active default; the higher bearer, then the
-/// higher identifier, where there are two.
+/// "at each precedence its uplink filter of that precedence with the bearer, or nothing", for each default and each link; the higher bearer, then
+/// the higher identifier, where there are two. A place without a component holds no filter.
 fn by_the_rule(table: &Table) -> Lists {
-    let is_default = |identity: u8| table.bearer(identity).is_some_and(|bearer| bearer.role == Role::Default);
     let mut lists = Lists::new();
     for (bearer, held) in table.numbered() {
         let default = match held.role {
@@ -32,8 +30,8 @@ fn by_the_rule(table: &Table) -> Lists {
             Role::Default => bearer,
             Role::Dedicated { link } => link,
         };
-        for (identifier, filter) in filters_in(&held.row).filter(|_| is_default(default)) {
-            if [0, 2, 3].contains(&filter.direction) {
+        for (identifier, filter) in held.row.iter().enumerate().filter(|_| (5..=15).contains(&default)) {
+            if filter.components().next().is_some() && [0, 2, 3].contains(&filter.direction) {
                 lists.insert((default, filter.precedence), Entry { bearer, identifier: identifier as u8 });
             }
         }
@@ -402,10 +400,46 @@ fn by_hand_the_higher_bearer_then_the_higher_identifier_is_listed() {
         table.list_anew();
         assert_eq!(listed(&table, 8), [(9, 8, 0)], "direction {direction}");
     }
-    table.bearer_mut(11).unwrap().row[14] = Filter::bare(9, 2);
-    table.list_anew();
-    assert_eq!(listed(&table, 8), [(9, 11, 14)]);
-    table.bearer_mut(8).unwrap().role = Role::Dedicated { link: 11 };
-    table.list_anew();
-    assert!(identities().all(|identity| listed(&table, identity).is_empty()));
+}
+
+#[test]
+fn by_hand_a_place_without_a_component_is_not_listed() {
+    let filter = Filter::bare(9, 3).with(&Component::Protocol(17));
+    for (precedence, direction) in (0..=255).flat_map(|p| [0, 1, 2, 3, 4, 255].map(|d| (p, d))) {
+        let mut table = Table::default();
+        table.bearer_mut(8).unwrap().role = Role::Default;
+        table.bearer_mut(11).unwrap().role = Role::Dedicated { link: 8 };
+        table.bearer_mut(8).unwrap().row[1] = filter;
+        table.bearer_mut(8).unwrap().row[2] = Filter::bare(precedence, direction);
+        table.bearer_mut(11).unwrap().row[3] = Filter::bare(precedence, direction);
+        table.list_anew();
+        assert_eq!(listed(&table, 8), [(9, 8, 1)], "{precedence} {direction}");
+        assert_eq!(table.is_well_formed(), (precedence, direction) == (0, 0));
+    }
+}
+
+/// Whatever the link is: a default, idle, another dedicated bearer or itself.
+#[test]
+fn by_hand_a_dedicated_bearer_is_listed_under_its_link() {
+    let filter = Filter::bare(9, 3).with(&Component::Protocol(17));
+    for (link, role) in
+        (0..=255).flat_map(|l| [Role::Idle, Role::Default, Role::Dedicated { link: 5 }].map(|role| (l, role)))
+    {
+        let mut table = Table::default();
+        if let Some(bearer) = table.bearer_mut(link) {
+            bearer.role = role;
+        }
+        table.bearer_mut(7).unwrap().role = Role::Dedicated { link };
+        table.bearer_mut(7).unwrap().row[4] = filter;
+        table.list_anew();
+        for identity in identities() {
+            let expected = if identity == link { vec![(9, 7, 4)] } else { Vec::new() };
+            assert_eq!(listed(&table, identity), expected, "{link} {role:?}");
+        }
+        let well_formed = role == Role::Default && link != 7 && (5..=15).contains(&link);
+        assert_eq!(table.is_well_formed(), well_formed, "{link} {role:?}");
+        table.bearer_mut(7).unwrap().role = Role::Idle;
+        table.list_anew();
+        assert!(identities().all(|identity| listed(&table, identity).is_empty()));
+    }
 }

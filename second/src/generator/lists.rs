@@ -99,7 +99,7 @@ pub struct StillToCome {
     reasons: Vec<Reason>,
 }
 
-const MOST_TRIES: usize = 30;
+pub const MOST_TRIES: usize = 30;
 
 fn operation(kind: Kind, entries: &[Vec<u8>]) -> Vec<u8> {
     [vec![code(kind) << 5 | entries.len() as u8], entries.concat()].concat()
@@ -260,7 +260,7 @@ impl Generator {
 
     fn free_create(&mut self, default: u8) -> Vec<u8> {
         let count =
-            if self.random.one_in(15) { LARGEST_COUNT } else { self.random.pick(&[1, 2, 2, 3, 3, 4]) };
+            if self.random.one_in(10) { LARGEST_COUNT } else { self.random.pick(&[1, 2, 2, 3, 3, 4]) };
         let identifiers = self.numbers(count, false, |g| g.random.below(16) as u8);
         operation(Kind::Create, &self.free_entries(&identifiers, default))
     }
@@ -409,12 +409,17 @@ impl Generator {
     /// On a bearer of the connection, where no filter of it stands.
     fn place_in(&mut self, placed: Placed, default: u8) {
         let bearers = self.bearers_of(default);
-        let bearer = self.random.any(&bearers).unwrap_or(5);
+        let (taken, entry) = self.some_entry(default);
+        let bearer = match placed {
+            Placed::Twice if self.random.one_in(3) => entry.bearer,
+            _ => self.random.any(&bearers).unwrap_or(5),
+        };
         let held = self.held(bearer);
         let empty: Vec<u8> = (0..16).filter(|place| !held.contains(place)).collect();
         let place = self.random.any(&empty).unwrap_or(0);
         let precedence = match placed {
-            Placed::Twice => self.some_entry(default).0,
+            Placed::Twice => taken,
+            Placed::NoComponent if self.random.one_in(2) => taken,
             _ => self.free_precedence(default),
         };
         let direction = match placed {
@@ -507,7 +512,7 @@ impl Generator {
 mod tests {
     use super::super::script;
     use crate::element::filters_in;
-    use crate::filter::{Filter, LARGEST_DIRECTION};
+    use crate::filter::LARGEST_DIRECTION;
     use crate::lines::LONGEST_LINE;
     use crate::list::{Entry, List};
     use crate::route::first_that_fits;
@@ -519,7 +524,7 @@ mod tests {
     const LEAST: usize = 3;
 
     /// What must come up in a script besides the forms of replies: a program that errs there must show.
-    const SITUATIONS: [&str; 25] = [
+    const SITUATIONS: [&str; 26] = [
         "a follow-up that leaves a position to nothing",
         "a follow-up that gives a position to the named bearer",
         "a follow-up of the named bearer itself",
@@ -537,7 +542,8 @@ mod tests {
         "by hand, filters of a bearer linked to no default",
         "by hand, filters of an idle bearer",
         "by hand, a direction above 3",
-        "by hand, a filter without a component",
+        "by hand, a place without a component",
+        "by hand, a place without a component at a listed precedence",
         "false by an empty place",
         "false by a filter of another connection",
         "false by a downlink filter at its precedence",
@@ -648,16 +654,20 @@ mod tests {
                 return;
             }
             let connection = || table.numbered().filter(|(i, b)| in_connection(identity, *i, b.role));
-            let filters: Vec<(u8, &Filter)> = connection()
+            let (filters, bare): (Vec<_>, Vec<_>) = connection()
                 .flat_map(|(i, b)| filters_in(&b.row).map(move |(_, filter)| (i, filter)))
-                .collect();
+                .partition(|(_, filter)| filter.has_component());
             for (nth, (bearer, filter)) in filters.iter().enumerate().filter(|(_, (_, f))| f.is_uplink()) {
                 let same =
                     filters[..nth].iter().filter(|(_, f)| f.is_uplink() && f.precedence == filter.precedence);
                 let bearers: Vec<bool> = same.map(|(other, _)| other == bearer).collect();
                 self.see("by hand, a precedence twice in a bearer", bearers.contains(&true));
                 self.see("by hand, a precedence twice in two bearers", bearers.contains(&false));
-                self.see("by hand, a filter without a component", filter.components().next().is_none());
+            }
+            for (_, place) in bare.iter().filter(|(_, place)| place.is_uplink()) {
+                let listed = table.list(identity).unwrap().at(place.precedence).is_some();
+                self.see("by hand, a place without a component", true);
+                self.see("by hand, a place without a component at a listed precedence", listed);
             }
             let above = filters.iter().any(|(_, filter)| filter.direction > LARGEST_DIRECTION);
             self.see("by hand, a direction above 3", above);

@@ -1,10 +1,12 @@
 //! Lists that are spoilt by an entry, questions of every kind to the table then, and what mends it.
 
 use super::elements::hex;
-use super::Generator;
+use super::lists::MOST_TRIES;
+use super::{headers, Generator};
 use crate::element::filters_in;
 use crate::list::Entry;
 use crate::messages;
+use crate::route::first_that_fits;
 use crate::status::active;
 use crate::table::{identities, in_connection, Role, Table};
 
@@ -191,7 +193,7 @@ impl Generator {
         let own = if of == default { free } else { position };
         let many = [(free, entry), (own, entry), (free, no_filter)];
         let (position, entry) = match self.random.any(&downlink) {
-            Some(downlink) if of == default && self.random.one_in(2) => downlink,
+            Some(downlink) if of == default && !self.random.one_in(4) => downlink,
             _ => self.random.pick(&many),
         };
         self.force_entry(of, position, Some(entry));
@@ -242,7 +244,8 @@ impl Generator {
             Question::Start => self.start(),
             Question::Reject => self.reject(),
             Question::Route => self.route(),
-            Question::Why => self.why(),
+            Question::Why if self.random.one_in(2) => self.why(),
+            Question::Why => self.why_decided_otherwise(default),
             Question::Check => self.say("check"),
             Question::Status => self.say("status 2"),
             Question::Synchronise => self.synchronise_without_one_of(default),
@@ -255,6 +258,21 @@ impl Generator {
             Question::Element => self.element_line(),
             Question::Show => self.say("show"),
         }
+    }
+
+    /// With a header for which the false list gives another filter than a true one, where few tries find one.
+    fn why_decided_otherwise(&mut self, default: u8) {
+        let right = self.table().listed_anew();
+        let mut header = self.header_near(default);
+        for _ in 0..MOST_TRIES {
+            let found = |table: &Table| first_that_fits(table, default, &header);
+            if found(self.table()) != found(&right) {
+                break;
+            }
+            header = self.header_near(default);
+        }
+        let words = headers::words(&mut self.random, &header);
+        self.say(&format!("why {default} {words}"));
     }
 
     /// Until every list is as the rule has it: entries are put back, or something is done by hand that changes nothing else.
