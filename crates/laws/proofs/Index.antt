@@ -7,7 +7,7 @@ use Prim.Native.Nat.{ℕ, zero, suc, _+_, _<_, _≤_}
 use native.Mathlib.Nat.{not-suc-le-zero, le-of-suc-le-suc}
 use native.Mathlib.Numerals.{add-one}
 use native.Mathlib.Omega.{arith}
-use mathlib.Core.List.{List, [], _∷_, _++_, map, append-nil}
+use mathlib.Core.List.{List, [], _∷_, _++_, append-nil}
 use lib.Dec.{eqb}
 use lib.ListN.{length, getD, set, length-set, length-append, List·getD-append}
 use lib.Seq.{set-getD, getD-set-same, getD-set-other, ext-getD, getD-append-seam}
@@ -93,12 +93,6 @@ module _ {A : Type 0} (f : A → ℕ → A) (a : A) where
 -- a walk whose turns keep the length
 pub walk-long : {A : Type 0} (f : List A → ℕ → List A) → ((s : List A) (i : ℕ) → length (f s i) ≡ length s) → (s : List A) (n : ℕ) → length (walk f s n) ≡ length s
 walk-long {A} f keeps s n = walk-keeps f s (λ (i : ℕ) (r : List A). length r ≡ length s) n refl (λ i r l e. keeps r i ∙ e)
-
--- a store, seen through f
-pub map-set : {A B : Type 0} (f : A → B) (xs : List A) (i : ℕ) (a : A) → map f (set xs i a) ≡ set (map f xs) i (f a)
-map-set f [] i a = refl
-map-set f (x ∷ xs) zero a = refl
-map-set {A} {B} f (x ∷ xs) (suc i) a = ap (λ (ys : List B). f x ∷ ys) (map-set f xs i a)
 
 pub tab-length : {A : Type 0} (f : ℕ → A) (n : ℕ) → length (tab f n) ≡ n
 unfolding tab
