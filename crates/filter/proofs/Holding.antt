@@ -85,6 +85,7 @@ module _ (f : Filter) (t : ℕ) where
   one_held (inr (inr (inr (inr (inl h))))) = of _ (index_held f f.index refl) h
   one_held (inr (inr (inr (inr (inr (inl h)))))) = of _ (class_held f f.class refl) h
   one_held (inr (inr (inr (inr (inr (inr (inl h))))))) = of _ (label_held f f.label refl) h
+  one_held (inr (inr (inr (inr (inr (inr (inr x7))))))) = elim x7 [ ]
 
 -- a component's type is among those of the filter that it is put in
 type_there : (P : ℕ → Type 0) (c : Component) (f : Filter) → (present (type_of c) ≡ true → P (type_of c)) → Some P (types_of (put c f))

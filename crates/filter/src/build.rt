@@ -45,6 +45,7 @@ impl Filter {
     }
 
     // Whether a component of type t cannot be added: its type is held already, or excluded by one held.
+    #[tactic(auto, using(laws::proofs::Tests::or_assoc, laws::proofs::Tests::or_false), unfolding(crate::specs::Build::excluded))]
     pub fn excludes_type(self, t: u8) -> bool
         ensures { result ≡ excluded self t }
     {
@@ -64,6 +65,7 @@ impl Filter {
             | exclude(t, label_type(label))
     }
 
+    #[tactic(auto, using(crate::proofs::Adding::kept, crate::proofs::Adding::placed))]
     pub fn with_ipv4_remote(self, address: u32, mask: u32) -> Filter
         ensures { result ≡ added self (Component.ipv4_remote address mask) }
     {
@@ -76,6 +78,7 @@ impl Filter {
         }
     }
 
+    #[tactic(auto, using(crate::proofs::Adding::kept, crate::proofs::Adding::placed))]
     pub fn with_ipv6_remote(self, address: Address, mask: Address) -> Filter
         ensures { result ≡ added self (Component.ipv6_remote address mask) }
     {
@@ -88,6 +91,7 @@ impl Filter {
         }
     }
 
+    #[tactic(auto, using(crate::proofs::Adding::kept, crate::proofs::Adding::placed))]
     pub fn with_protocol(self, protocol: u8) -> Filter
         ensures { result ≡ added self (Component.protocol protocol) }
     {
@@ -100,6 +104,7 @@ impl Filter {
         }
     }
 
+    #[tactic(auto, using(crate::proofs::Adding::kept, crate::proofs::Adding::placed))]
     pub fn with_local_port(self, port: u16) -> Filter
         ensures { result ≡ added self (Component.local_port port) }
     {
@@ -112,6 +117,7 @@ impl Filter {
         }
     }
 
+    #[tactic(auto, using(crate::proofs::Adding::kept, crate::proofs::Adding::placed))]
     pub fn with_local_range(self, low: u16, high: u16) -> Filter
         ensures { result ≡ added self (Component.local_range low high) }
     {
@@ -124,6 +130,7 @@ impl Filter {
         }
     }
 
+    #[tactic(auto, using(crate::proofs::Adding::kept, crate::proofs::Adding::placed))]
     pub fn with_remote_port(self, port: u16) -> Filter
         ensures { result ≡ added self (Component.remote_port port) }
     {
@@ -136,6 +143,7 @@ impl Filter {
         }
     }
 
+    #[tactic(auto, using(crate::proofs::Adding::kept, crate::proofs::Adding::placed))]
     pub fn with_remote_range(self, low: u16, high: u16) -> Filter
         ensures { result ≡ added self (Component.remote_range low high) }
     {
@@ -148,6 +156,7 @@ impl Filter {
         }
     }
 
+    #[tactic(auto, using(crate::proofs::Adding::kept, crate::proofs::Adding::placed))]
     pub fn with_index(self, index: u32) -> Filter
         ensures { result ≡ added self (Component.index index) }
     {
@@ -160,6 +169,7 @@ impl Filter {
         }
     }
 
+    #[tactic(auto, using(crate::proofs::Adding::kept, crate::proofs::Adding::placed))]
     pub fn with_class(self, class: u8, mask: u8) -> Filter
         ensures { result ≡ added self (Component.class class mask) }
     {
@@ -172,6 +182,7 @@ impl Filter {
         }
     }
 
+    #[tactic(auto, using(crate::proofs::Adding::kept, crate::proofs::Adding::placed))]
     pub fn with_label(self, label: u32) -> Filter
         ensures { result ≡ added self (Component.label label) }
     {

@@ -9,6 +9,7 @@ use crate::component::{
 
 pub(crate) const LARGEST_DIRECTION: u8 = 3;
 
+#[tactic(auto, using(laws::proofs::Tests::or_assoc, laws::proofs::Tests::or_false), unfolding(crate::specs::Coding::held))]
 pub fn held(filter: Filter) -> bool
     ensures { result ≡ held filter }
 {
@@ -37,6 +38,7 @@ fn label_fits(label: Label) -> bool
     }
 }
 
+#[tactic(auto, unfolding(crate::specs::Coding::well_coded))]
 pub fn well_coded(filter: Filter) -> bool
     ensures { result ≡ well_coded filter }
 {
@@ -44,12 +46,14 @@ pub fn well_coded(filter: Filter) -> bool
     held(filter) & (filter.direction <= LARGEST_DIRECTION) & label_fits(label)
 }
 
+#[tactic(auto, unfolding(crate::specs::Coding::empty_place))]
 pub fn empty_place(filter: Filter) -> bool
     ensures { result ≡ empty_place filter }
 {
     !held(filter) & (filter.precedence == 0) & (filter.direction == 0)
 }
 
+#[tactic(auto, unfolding(crate::specs::Coding::uplink))]
 pub fn uplink(filter: Filter) -> bool
     ensures { result ≡ uplink filter }
 {

@@ -29,52 +29,52 @@ pub const CLASS: u8 = 0x70;
 pub const LABEL: u8 = 0x80;
 
 // Sixteen octets, the first eight in `high`.
-#[derive(Drop)]
+#[derive(Clone, Copy)]
 pub struct Address {
     pub high: u64,
     pub low: u64,
 }
 
-#[derive(Drop)]
+#[derive(Clone, Copy)]
 pub enum RemoteAddress {
     Absent,
     V4 { address: u32, mask: u32 },
     V6 { address: Address, mask: Address },
 }
 
-#[derive(Drop)]
+#[derive(Clone, Copy)]
 pub enum Protocol {
     Absent,
     Is(u8),
 }
 
-#[derive(Drop)]
+#[derive(Clone, Copy)]
 pub enum Port {
     Absent,
     Is(u16),
     Range { low: u16, high: u16 },
 }
 
-#[derive(Drop)]
+#[derive(Clone, Copy)]
 pub enum Index {
     Absent,
     Is(u32),
 }
 
-#[derive(Drop)]
+#[derive(Clone, Copy)]
 pub enum Class {
     Absent,
     Masked { class: u8, mask: u8 },
 }
 
-#[derive(Drop)]
+#[derive(Clone, Copy)]
 pub enum Label {
     Absent,
     Is(u32),
 }
 
 // `address` is the remote address, `local` and `remote` are the ports.
-#[derive(Drop)]
+#[derive(Clone, Copy)]
 pub struct Filter {
     pub precedence: u8,
     pub direction: u8,

@@ -6,18 +6,21 @@ ghost use Rattle.filter.specs.Fit.{agrees_address, agrees_protocol, agrees_port,
 use crate::component::{Address, Class, Filter, Index, Label, Port, Protocol, RemoteAddress};
 use crate::packet::{Header, carries_index, carries_label, carries_ports};
 
+#[tactic(auto, using(laws::proofs::Masks::same_and))]
 fn same_under_8(mask: u8, x: u8, y: u8) -> bool
     ensures { result ≡ same_under 8 mask x y }
 {
     x & mask == y & mask
 }
 
+#[tactic(auto, using(laws::proofs::Masks::same_and))]
 fn same_under_32(mask: u32, x: u32, y: u32) -> bool
     ensures { result ≡ same_under 32 mask x y }
 {
     x & mask == y & mask
 }
 
+#[tactic(auto, using(laws::proofs::Masks::same_and))]
 fn same_under_64(mask: u64, x: u64, y: u64) -> bool
     ensures { result ≡ same_under 64 mask x y }
 {
@@ -98,6 +101,7 @@ fn agrees_label(component: Label, version: u8, label: u32) -> bool
 }
 
 // The components on the protocol and on fields that count only for some protocols.
+#[tactic(auto, unfolding(crate::specs::Fit::agrees_transport))]
 fn agrees_transport(filter: Filter, header: Header) -> bool
     ensures { result ≡ agrees_transport filter header }
 {
@@ -112,6 +116,7 @@ fn agrees_transport(filter: Filter, header: Header) -> bool
 }
 
 // The others.
+#[tactic(auto, unfolding(crate::specs::Fit::agrees_network))]
 fn agrees_network(filter: Filter, header: Header) -> bool
     ensures { result ≡ agrees_network filter header }
 {
@@ -124,6 +129,7 @@ fn agrees_network(filter: Filter, header: Header) -> bool
         & agrees_label(label, header.version, header.label)
 }
 
+#[tactic(auto, unfolding(crate::specs::Fit::agrees_transport, crate::specs::Fit::fits))]
 pub fn fits(filter: Filter, header: Header) -> bool
     ensures { result ≡ fits filter header }
 {

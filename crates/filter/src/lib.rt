@@ -1,3 +1,4 @@
+#![tactic(auto)]
 // A packet filter and its components, a packet header, when the one fits the other, and whether any packet fits at all.
 pub mod build;
 pub mod coding;

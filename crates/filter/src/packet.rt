@@ -5,7 +5,7 @@ ghost use Rattle.filter.specs.Fit.{carries_ports, carries_index, carries_label, 
 use crate::component::{Address, LARGEST_LABEL};
 
 // `address` is the remote address, `local` and `remote` are the ports.
-#[derive(Drop)]
+#[derive(Clone, Copy)]
 pub struct Header {
     pub version: u8,
     pub address: Address,
@@ -17,6 +17,7 @@ pub struct Header {
     pub label: u32,
 }
 
+#[tactic(auto, unfolding(crate::specs::Fit::valid_header))]
 pub fn valid_header(header: Header) -> bool
     ensures { result ≡ valid_header header }
 {

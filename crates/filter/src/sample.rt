@@ -56,6 +56,7 @@ fn some_protocol(protocol: Protocol, ports: bool, index: bool) -> bool
     }
 }
 
+#[tactic(auto, using(crate::proofs::Asked::fittable_is), unfolding(crate::specs::Inner::Asked::asked))]
 pub fn fittable(filter: Filter) -> bool
     ensures { result ≡ fittable filter }
 {
@@ -73,6 +74,7 @@ pub fn fittable(filter: Filter) -> bool
 }
 
 // Whether the filter may stand in a place of a row: an empty one, or one that is well coded and fits some packet.
+#[tactic(auto, using(crate::proofs::Asked::held_fine, crate::proofs::Asked::unheld_fine))]
 pub fn place_fine(filter: Filter) -> bool
     ensures { result ≡ place_fine filter }
 {
