@@ -1,7 +1,7 @@
 -- The octets of the lists while they are made: what stands at octet n when lists are emptied and rows put.
 use mathlib.Core.Path.{◌≡◌, refl, sym, ◌∙◌, ap, subst}
 use mathlib.Core.Bool.{Bool, true, false, not, ◌&&◌, and-true, and-false}
-use mathlib.Core.Logic.{◌⊎◌, ⊎_elim}
+use mathlib.Core.Logic.{⊎_elim}
 use mathlib.Core.List.{List}
 use Prim.Native.Nat.{ℕ, ◌+◌, ◌*◌, ◌/◌, ◌%◌, ◌<◌, ◌≤◌}
 use native.Mathlib.Nat.{add-zero}
@@ -10,7 +10,7 @@ use lib.Dec.{eqb}
 use lib.ListN.{length, get_or, set, length-set}
 use borrow.Author.Tests.{eqb-true, eqb-false, eq-eqb, ne_eqb}
 use Rattle.laws.specs.Says.{pick}
-use Rattle.laws.specs.Index.{any_below, last_below, walk, tab, sum_below, count_below}
+use Rattle.laws.specs.Index.{any_below, last_below, walk, sum_below, count_below}
 use Rattle.laws.proofs.Index.{done, tab_is, set_seen, walk_long, walk_more}
 use Rattle.laws.proofs.Counts.{sum_same, count_more, count_same, count_parts}
 use Rattle.laws.proofs.Lasts.{Last, NoLast, last_cases, last_else, last_none, last_same, last_map, last_walk}
@@ -22,7 +22,6 @@ use Rattle.filter.specs.Sizes.{place_count, precedence_count}
 use Rattle.filter.specs.Build.{empty_filter}
 use Rattle.table.specs.declared.bearer.Bearer.{Bearer}
 use Rattle.table.specs.declared.bearer.Table.{Table}
-use Rattle.table.specs.declared.list.Entry.{Entry}
 use Rattle.table.specs.Bearers.{bearer_count, is_identity, index_of, identity_of, no_bearer, bearer_from, filter_from, connection_from, in_row}
 use Rattle.table.specs.Lists.{is_uplink, nothing, place_has, bearer_has, entry_of, entry_in, entry_at, cell_of, encoded, held_count, cell_at}
 use Rattle.table.specs.Ranges.{TableInRange}

@@ -1,20 +1,19 @@
 -- Lists that stay right where bearers change: those of connections whose uplink filters are as they were.
 use mathlib.Core.Path.{◌≡◌, refl, sym, ◌∙◌, ap}
 use mathlib.Core.Bool.{Bool, true, false}
-use mathlib.Core.Logic.{◌⊎◌, inl, inr, ⊎_elim}
+use mathlib.Core.Logic.{inl, inr}
 use mathlib.Core.List.{List}
 use Prim.Native.Nat.{ℕ, ◌/◌, ◌%◌, ◌<◌}
 use native.Mathlib.Omega.{arith}
 use lib.ListN.{get_or, replicate, get_or-replicate}
 use Rattle.laws.specs.Says.{pick}
-use Rattle.laws.specs.Index.{tab}
 use Rattle.laws.proofs.Index.{tab_at, tab_same}
 use Rattle.filter.specs.Sizes.{precedence_count}
 use Rattle.table.specs.declared.bearer.Table.{Table}
 use Rattle.table.specs.declared.list.Entry.{Entry}
 use Rattle.table.specs.Bearers.{bearer_count, identity_of}
 use Rattle.table.specs.Lists.{precedence_at, entry_at, encoded, held_count, cell_at, lists_of}
-use Rattle.table.specs.Positions.{Uplink, Named, Vacant, Stands, Highest}
+use Rattle.table.specs.Positions.{Uplink, Stands, Highest}
 use Rattle.table.specs.Tables.{table_of, relisted_at, relisted_of}
 use Rattle.table.specs.WellFormed.{RightLists}
 use Rattle.table.proofs.Listing.{entry_stands, entry_highest, stands_one}

@@ -1,9 +1,7 @@
 -- The code's test is the definition's: each bearer fine and its uplink filters standing, no precedence marked twice, transactions apart, and no more entries
 -- than uplink filters.
-use mathlib.Core.Path.{◌≡◌, refl, sym, ◌∙◌, ap}
+use mathlib.Core.Path.{◌≡◌, refl, ◌∙◌, ap}
 use mathlib.Core.Bool.{Bool, true, false, not, ◌&&◌}
-use mathlib.Core.List.{List}
-use Prim.Native.Nat.{ℕ}
 use lib.Dec.{leb}
 use Rattle.laws.specs.Index.{all_below, sum_below, count_below, tab}
 use Rattle.laws.proofs.Index.{all_both}

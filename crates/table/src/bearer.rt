@@ -18,7 +18,7 @@ pub const HELD: usize = 2816;
 pub const LAST_TRANSACTION: u8 = 254;
 
 // A dedicated bearer is linked to the default with that identity.
-#[derive(Drop)]
+#[derive(Clone, Copy)]
 pub enum Role {
     Idle,
     Default,
@@ -26,7 +26,7 @@ pub enum Role {
 }
 
 // `transaction` is 0 where none is open; the filter with identifier n stands in place n of the row.
-#[derive(Drop)]
+#[derive(Clone, Copy)]
 pub struct Bearer {
     pub role: Role,
     pub transaction: u8,
@@ -34,7 +34,7 @@ pub struct Bearer {
 }
 
 // The bearer with identity FIRST_IDENTITY stands first, and so does its list: PRECEDENCES octets, an entry each.
-#[derive(Drop)]
+#[derive(Clone, Copy)]
 pub struct Table {
     pub bearers: [Bearer; BEARERS],
     pub lists: [u8; HELD],
@@ -50,6 +50,7 @@ pub fn idle_bearer() -> Bearer
     }
 }
 
+#[tactic(auto, using(crate::proofs::Listing::idle_lists), unfolding(crate::specs::Tables::empty_table))]
 pub fn empty_table() -> Table
     ensures { result ≡ empty_table }
 {
@@ -107,6 +108,7 @@ pub fn index_of(identity: u8) -> usize
 }
 
 // Of an index past the end: idle.
+#[tactic(auto, using(crate::proofs::Typed::table_in_range))]
 pub fn role_at(t: Table, i: usize) -> Role
     ensures { result ≡ role_at t i }
 {
@@ -130,6 +132,7 @@ pub fn role_of(t: Table, identity: u8) -> Role
 }
 
 // Whether a bearer of this role at index i is of the connection.
+#[tactic(auto, using(laws::proofs::Says::says_and, laws::proofs::Says::says_eq, laws::proofs::Says::says_le, laws::proofs::Says::says_same, laws::proofs::Says::says_so))]
 pub fn in_connection(i: usize, role: Role, connection: u8) -> bool
     ensures { result ≡ in_connection connection i role }
 {
@@ -153,6 +156,7 @@ pub(crate) fn connection_of(i: usize, role: Role) -> u8
 }
 
 // Of an index past the end: 0.
+#[tactic(auto, using(crate::proofs::Typed::table_in_range))]
 pub fn connection_at(t: Table, i: usize) -> u8
     ensures { result ≡ connection_at t i }
 {

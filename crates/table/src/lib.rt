@@ -1,3 +1,4 @@
+#![tactic(auto)]
 // The bearers of a module, their connections and transactions, and whether a table of them is well formed.
 pub mod bearer;
 pub mod list;

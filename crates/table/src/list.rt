@@ -15,7 +15,7 @@ use filter::coding::{held, uplink};
 use filter::component::{PLACES, PRECEDENCES};
 
 // The filter stands at `place`, its identifier, of the row of `bearer`. The entry 0, 0 is nothing: no bearer has identity 0.
-#[derive(Drop)]
+#[derive(Clone, Copy)]
 pub struct Entry {
     pub bearer: u8,
     pub place: u8,
@@ -38,6 +38,7 @@ pub(crate) fn cell_of(bearer: u8, j: usize) -> u8
     bearer * PER_BEARER + j as u8
 }
 
+#[tactic(auto, unfolding(crate::specs::Lists::decoded))]
 pub fn decoded(cell: u8) -> Entry
     ensures { result ≡ decoded cell }
 {
@@ -48,6 +49,7 @@ pub fn decoded(cell: u8) -> Entry
 }
 
 // Of an identity out of range: nothing.
+#[tactic(auto, using(crate::proofs::Walks::in_eleven), unfolding(crate::specs::Lists::decoded))]
 pub fn entry_at(t: Table, identity: u8, position: u8) -> Entry
     ensures { result ≡ held_at t identity position }
 {
@@ -60,6 +62,7 @@ pub fn entry_at(t: Table, identity: u8, position: u8) -> Entry
 }
 
 // Where the list of a connection begins; 0 where no default can have that identity.
+#[tactic(auto, unfolding(crate::specs::Inner::Lists::begins_at))]
 pub(crate) fn begins_at(connection: u8) -> usize
     ensures { result ≡ begins_at connection }
 {
@@ -70,6 +73,7 @@ pub(crate) fn begins_at(connection: u8) -> usize
     }
 }
 
+#[tactic(auto, using(crate::proofs::Cells::clear_done, crate::proofs::Cells::clear_more, crate::proofs::Cells::cleared_long, laws::proofs::Index::walk_start))]
 fn clear(cells: &mut [u8], from: usize)
     requires { (length cells.old ≡ held_count) × (from + precedence_count ≤ held_count) }
     ensures { cells.new ≡ cleared from cells.old }
@@ -79,6 +83,7 @@ fn clear(cells: &mut [u8], from: usize)
     }
 }
 
+#[tactic(auto, using(crate::proofs::Cells::row_done, crate::proofs::Cells::row_long, crate::proofs::Cells::row_put, crate::proofs::Cells::row_skip, laws::proofs::Index::walk_start))]
 fn put_row(cells: &mut [u8], from: usize, bearer: u8, b: Bearer)
     requires { (length cells.old ≡ held_count) × (from + precedence_count ≤ held_count) × (bearer ≤ last_identity) }
     ensures { cells.new ≡ put_row b.row from bearer cells.old }
@@ -92,6 +97,7 @@ fn put_row(cells: &mut [u8], from: usize, bearer: u8, b: Bearer)
     }
 }
 
+#[tactic(auto, using(crate::proofs::Walks::in_eleven))]
 fn is_touched(connection: u8, touched: [bool; BEARERS]) -> bool
     ensures { result ≡ touches touched connection }
 {
@@ -103,6 +109,7 @@ fn is_touched(connection: u8, touched: [bool; BEARERS]) -> bool
 }
 
 // For `relisted`, where one connection changed.
+#[tactic(auto, using(laws::proofs::Index::stored, laws::proofs::Index::stored_done, laws::proofs::Index::stored_more, laws::proofs::Index::stored_start))]
 pub fn only(identity: u8) -> [bool; BEARERS]
     ensures { result ≡ only_of identity }
 {
@@ -114,6 +121,7 @@ pub fn only(identity: u8) -> [bool; BEARERS]
 }
 
 // The lists of the identities touched, made anew from the bearers; the others stay as they are held.
+#[tactic(auto, using(crate::proofs::Cells::bearer_put, crate::proofs::Cells::bearer_skip, crate::proofs::Cells::bearers_long, crate::proofs::Cells::begins_inside, laws::proofs::Index::done, crate::proofs::Cells::emptied_long, crate::proofs::Cells::empty_more, crate::proofs::Cells::empty_skip, crate::proofs::Cells::made_done, crate::proofs::Typed::table_in_range, laws::proofs::Index::walk_start))]
 pub fn relisted(t: Table, touched: [bool; BEARERS]) -> Table
     ensures { result ≡ relisted_of t touched }
 {
@@ -143,6 +151,7 @@ pub fn relisted(t: Table, touched: [bool; BEARERS]) -> Table
 }
 
 // Bearers with their lists, for those who kept a table without.
+#[tactic(auto, using(crate::proofs::Relisting::all_relisted))]
 pub fn table_of(bearers: [Bearer; BEARERS]) -> Table
     ensures { result ≡ table_of bearers }
 {
@@ -158,6 +167,7 @@ const PART: usize = 128;
 
 const PARTS: usize = 22;
 
+#[tactic(auto, using(laws::proofs::Counts::count_le, laws::proofs::Counts::count_start, laws::proofs::Index::done, crate::proofs::Cells::names_more, crate::proofs::Cells::names_skip))]
 fn entries_in(cells: &[u8], from: usize) -> u8
     requires { from + 128 ≤ length cells.now }
     ensures { result ≡ count_below (names_at cells.now from) 128 }
@@ -171,6 +181,7 @@ fn entries_in(cells: &[u8], from: usize) -> u8
     count
 }
 
+#[tactic(auto, using(laws::proofs::Counts::count_le, laws::proofs::Index::done, crate::proofs::Cells::parts_named, laws::proofs::Counts::sum_le, laws::proofs::Counts::sum_more, laws::proofs::Counts::sum_start))]
 pub(crate) fn entries(cells: &[u8]) -> u16
     requires { length cells.now ≡ held_count }
     ensures { result ≡ count_below (names_at cells.now 0) held_count }

@@ -21,6 +21,7 @@ use filter::coding::{empty_place, held, uplink};
 use filter::component::{PLACES, PRECEDENCES};
 use filter::sample::place_fine;
 
+#[tactic(auto, using(crate::proofs::Walks::in_eleven))]
 fn link_fine(defaults: [bool; BEARERS], role: Role) -> bool
     ensures { result ≡ link_in defaults role }
 {
@@ -44,7 +45,7 @@ fn transaction_fine(idle: bool, x: u8) -> bool
 }
 
 // Whether all was fine, and how many uplink filters were seen.
-#[derive(Drop)]
+#[derive(Clone, Copy)]
 pub(crate) struct Found {
     pub(crate) fine: bool,
     pub(crate) uplinks: u16,
@@ -58,6 +59,7 @@ fn one(up: bool) -> u16
 
 // Also this filter may stand in its place, none of its connection has its precedence so far, and if it is for the uplink it stands in its list, which
 // begins at `from`.
+#[tactic(auto, using(crate::proofs::Walks::found_held, crate::proofs::Walks::found_unheld, crate::proofs::Walks::one_le))]
 fn filter_fine(
     seen: &mut [u16],
     bit: u16,
@@ -90,6 +92,7 @@ fn filter_fine(
     }
 }
 
+#[tactic(auto, using(crate::proofs::Walks::row_done, crate::proofs::Walks::row_few, crate::proofs::Walks::row_long, crate::proofs::Walks::row_more, crate::proofs::Walks::row_start))]
 fn row_fine(seen: &mut [u16], bit: u16, lists: &[u8], from: usize, bearer: u8, b: Bearer) -> Found
     requires { (length seen.old ≡ precedence_count) × (from + precedence_count ≤ length lists.now) × (bearer ≤ last_identity) }
     ensures { Told (all_below (place_told lists.now from bearer b.row) place_count) (marked_with bit seen.old (row_precedences b.row)) result.fine seen.new
@@ -113,6 +116,7 @@ fn four_empty(a: Filter, b: Filter, c: Filter, d: Filter) -> bool
 }
 
 // Written out, since an index that is a literal asks for no copy of the row; most bearers are idle. By fours, since more at a time go over the stack.
+#[tactic(auto, using(crate::proofs::Walks::by_fours, crate::proofs::Walks::four, crate::proofs::Walks::four_idle, crate::proofs::Walks::then_and))]
 fn holds_nothing(b: Bearer) -> bool
     ensures { result ≡ all_below (filter_fine true b.row) place_count }
 {
@@ -123,6 +127,7 @@ fn holds_nothing(b: Bearer) -> bool
 }
 
 // The bearers by themselves: with the lists beside them, a table would be copied once more.
+#[tactic(auto, using(crate::proofs::Walks::active_more, crate::proofs::Cells::begins_inside, laws::proofs::Counts::count_le, crate::proofs::Walks::idle_more, crate::proofs::Walks::table_done, crate::proofs::Walks::table_few, crate::proofs::Walks::table_long, crate::proofs::Walks::table_start))]
 pub(crate) fn bearers_fine(
     bearers: [Bearer; BEARERS],
     links: [bool; BEARERS],

@@ -9,6 +9,7 @@ use crate::bearer::{BEARERS, Table, is_default};
 use crate::list::entries;
 use crate::walk::bearers_fine;
 
+#[tactic(auto, using(laws::proofs::Index::stored, laws::proofs::Index::stored_done, laws::proofs::Index::stored_more, laws::proofs::Index::stored_start))]
 fn defaults(t: Table) -> [bool; BEARERS]
     ensures { result ≡ tab (default_at t) bearer_count }
 {
@@ -21,6 +22,7 @@ fn defaults(t: Table) -> [bool; BEARERS]
     all
 }
 
+#[tactic(auto, using(laws::proofs::Index::stored, laws::proofs::Index::stored_done, laws::proofs::Index::stored_more, laws::proofs::Index::stored_start))]
 fn transactions(t: Table) -> [u8; BEARERS]
     ensures { result ≡ tab (transaction_at t) bearer_count }
 {
@@ -32,6 +34,7 @@ fn transactions(t: Table) -> [u8; BEARERS]
     all
 }
 
+#[tactic(auto, using(laws::proofs::Index::all_more, laws::proofs::Index::all_start, laws::proofs::Index::done, crate::proofs::Walks::none_open), unfolding(crate::specs::Inner::Walk::apart_from, crate::specs::Inner::Walk::apart_in))]
 fn transaction_from(xs: [u8; BEARERS], i: usize) -> bool
     requires { i < bearer_count }
     ensures { result ≡ apart_from xs i }
@@ -46,6 +49,7 @@ fn transaction_from(xs: [u8; BEARERS], i: usize) -> bool
     all
 }
 
+#[tactic(auto, using(laws::proofs::Index::all_more, laws::proofs::Index::all_start, laws::proofs::Index::done))]
 fn distinct_transactions(xs: [u8; BEARERS]) -> bool
     ensures { result ≡ all_below (apart_from xs) bearer_count }
 {
@@ -56,6 +60,7 @@ fn distinct_transactions(xs: [u8; BEARERS]) -> bool
     all
 }
 
+#[tactic(auto, using(crate::proofs::Tested::all_tested, crate::proofs::Typed::table_in_range, crate::proofs::Walks::transactions_are))]
 pub fn well_formed(t: Table) -> bool
     ensures { result ≡ well_formed t }
 {

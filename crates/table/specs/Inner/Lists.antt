@@ -1,13 +1,13 @@
 -- How the code makes and tests lists: what its inner functions give. Nothing here is claimed of a table; the proofs tie it to Lists and WellFormed.
 use Rattle.std.specs.Prelude.{ℕ, ◌+◌, ◌*◌, Bool, false, not, ◌&&◌, ◌||◌, List, [], eqb, get_or, set}
 use Rattle.laws.specs.Says.{pick}
-use Rattle.laws.specs.Index.{imp, all_below, one, sum_below, count_below, walk}
+use Rattle.laws.specs.Index.{imp, all_below, count_below, walk}
 use Rattle.filter.specs.declared.component.Filter.{Filter}
 use Rattle.filter.specs.Fittable.{place_fine}
 use Rattle.filter.specs.Sizes.{place_count, precedence_count}
 use Rattle.table.specs.declared.bearer.Bearer.{Bearer}
 use Rattle.table.specs.declared.bearer.Table.{Table}
-use Rattle.table.specs.Bearers.{bearer_count, is_identity, index_of, identity_of, bearer_from, bearer_at, in_row, role_at, is_idle, connection_from, connection_at}
+use Rattle.table.specs.Bearers.{is_identity, index_of, identity_of, bearer_from, bearer_at, in_row, role_at, is_idle, connection_from, connection_at}
 use Rattle.table.specs.Lists.{is_uplink, cell_of}
 use Rattle.table.specs.WellFormed.{filter_fine}
 use Rattle.table.specs.Inner.Walk.{precedence_of, marked_with, fine_at}

@@ -1,0 +1,16 @@
+-- `table::list::relisted` meets its contract: the lists touched are emptied, and the rows of the bearers passed are put.
+use native.Mathlib.Omega.{arith}
+use Rattle.laws.specs.Index.{walk}
+use Rattle.laws.proofs.Index.{done}
+use Rattle.table.specs.Bearers.{bearer_count}
+use Rattle.table.specs.Inner.Lists.{cleared_by}
+use Rattle.table.proofs.Typed.{table_in_range}
+use Rattle.table.proofs.Cells.{made_done}
+use Rattle.table.proofs.list.relisted.Goals as goal
+
+pub returns : goal.returns
+returns c =
+    let l = c.loop-i-2 in
+    let first = c.loop-i in
+    made_done c.args.t _ (table_in_range c.args.t _ c.well_formed.0) l.i (omega arith) (omega arith)
+    (done (walk (cleared_by c.args.touched) c.args.t.lists) first.i bearer_count _ (omega arith) (omega arith) first.invariant) l.invariant
