@@ -65,6 +65,7 @@ entries_badly (r ∷ rs) (inr h) = rw (entries_badly rs h) (go (coded_of r))
     go : (c : Coded) → with_entry (identifier_of r) c badly ≡ badly
     go Badly = refl
     go (Well f) = refl
+entries_badly [] x' = elim x' [ ]
 
 -- ---- Step 8: some filter fits no packet, or each fits some
 every_says : (es : List Entry) → All EntryDecoded es → Says (every entry_fittable es) (All (λ e. SomePacketFits e.filter) es)
@@ -84,6 +85,7 @@ some_unfit (e ∷ es) d q = go (entry_fittable e) refl (some_unfit es d.1)
 unfit_not_fit : (es : List Entry) → Some NoPacketFits es → All (λ e. SomePacketFits e.filter) es → ⊥
 unfit_not_fit (e ∷ es) (inl u) fit = u fit.0
 unfit_not_fit (e ∷ es) (inr u) fit = unfit_not_fit es u fit.1
+unfit_not_fit [] x'' fit = elim x'' [ ]
 
 module _ (xs : List ℕ) where
   -- where a cause is the reader's, and what is known of the value where that is said
@@ -100,7 +102,7 @@ module _ (xs : List ℕ) where
   abbrev Why : Answer → Type 0
   Why (Filters operation) = Unit {0}
   Why Identifiers = Unit {0}
-  Why (Bare operation) = Unit {0}
+  Why (Bare kind) = Unit {0}
   Why (Refused refusal) = Known refusal.cause → Refuses refusal.cause
 
   -- ---- From what the reader gives to why
@@ -123,7 +125,7 @@ module _ (xs : List ℕ) where
   frame_why short (filters operation rs) q =
       entries_why (record { short = short; operation = operation; raws = rs; framed = q }) (entries_of rs) refl
   frame_why short (identifiers ys) q = tt
-  frame_why short (bare operation) q = tt
+  frame_why short (bare kind) q = tt
 
   why : Why (unplaced xs).answer
   unfolding unplaced read_value
@@ -159,7 +161,7 @@ module _ (xs : List ℕ) where
   told : (a : Answer) (cause : Cause) → number_of a ≡ cause_number cause → Why a → Known cause → Refuses cause
   told (Filters operation) cause q w = some_number cause (sym q)
   told Identifiers cause q w = some_number cause (sym q)
-  told (Bare operation) cause q w = some_number cause (sym q)
+  told (Bare kind) cause q w = some_number cause (sym q)
   told (Refused refusal) cause q w = subst (λ (c : Cause). Known c → Refuses c) (same_cause refusal.cause cause q) w
 
   -- the reader gives a cause's number exactly where its steps refuse the value

@@ -259,7 +259,7 @@ abbrev pub FramedInto : Framed → Type 0
 FramedInto not_framed = Unit {0}
 FramedInto (filters operation rs) = OneTo15 (length rs) × All RawOctets rs
 FramedInto (identifiers xs) = OneTo15 (length xs)
-FramedInto (bare_frame operation) = Unit {0}
+FramedInto (bare_frame kind) = Unit {0}
 
 module _ (e n : ℕ) (few : n ≤ 15) (xs : List ℕ) where
   split_framed : (operation : SetOperation) (s : Split) → 1 ≤ n → SplitInto n s → FramedInto (framed_split operation e s)

@@ -2,7 +2,7 @@
 use mathlib.Core.Path.{◌≡◌, refl, sym, ◌∙◌, ap}
 use mathlib.Core.Bool.{Bool, true, false}
 use mathlib.Core.List.{List, [], ◌∷◌, ◌++◌, map, flatten, append_assoc, append-nil}
-use mathlib.Core.Logic.{◌⊎◌, inl, inr, ⊎_elim}
+use mathlib.Core.Logic.{inl, inr, ⊎_elim}
 use Prim.Native.Nat.{ℕ, ◌+◌, ◌≤◌, ◌<◌}
 use native.Mathlib.Omega.{arith}
 use lib.Dec.{leb}
@@ -267,7 +267,7 @@ cause_least Coding = omega arith
 not_between : (a : Answer) (n : ℕ) → 0 < n → n < 42 → number_of a ≡ n → ⊥
 not_between (Filters operation) n l m q = absurd (omega arith)
 not_between Identifiers n l m q = absurd (omega arith)
-not_between (Bare operation) n l m q = absurd (omega arith)
+not_between (Bare kind) n l m q = absurd (omega arith)
 not_between (Refused refusal) n l m q = let c = cause_least refusal.cause in absurd (omega arith)
 
 module _ (p : Portions) (r : PortionsInRange p) where

@@ -116,6 +116,8 @@ unfolding every
 none_unfit before [] [] h = refl
 none_unfit before (r ∷ rs) (e ∷ es) h =
     ap₂ ◌&&◌ (ap (λ (c : Coded). not (is_unfit c)) h.0.decoded ∙ not-not (entry_fittable e)) (none_unfit (before ++ r ∷ []) rs es h.1)
+none_unfit before [] (e ∷ es) h = elim h [ ]
+none_unfit before (r ∷ rs) [] h = elim h [ ]
 
 pub unfit_none : (before : List Raw) (at : ℕ) (rs : List Raw) (es : List Entry) → 0 < at → entries_of rs ≡ coded es
     → eqb (earliest fits_nothing before at rs) 0 ≡ every entry_fittable es
@@ -129,10 +131,14 @@ entry_precedence r e h = (coded_keeps (bare r.precedence (direction_of r)) r.con
 same_identifiers : (rs : List Raw) (es : List Entry) → Paired rs es → map identifier_of rs ≡ map (λ e. e.identifier) es
 same_identifiers [] [] h = refl
 same_identifiers (r ∷ rs) (e ∷ es) h = ap₂ ◌∷◌ (sym h.0.identifier) (same_identifiers rs es h.1)
+same_identifiers [] (e ∷ es) h = elim h [ ]
+same_identifiers (r ∷ rs) [] h = elim h [ ]
 
 same_precedences : (rs : List Raw) (es : List Entry) → Paired rs es → map precedence_in rs ≡ map precedence_of es
 same_precedences [] [] h = refl
 same_precedences (r ∷ rs) (e ∷ es) h = ap₂ ◌∷◌ (sym (entry_precedence r e h.0)) (same_precedences rs es h.1)
+same_precedences [] (e ∷ es) h = elim h [ ]
+same_precedences (r ∷ rs) [] h = elim h [ ]
 
 -- whether one comes again, of the numbers that f gives, after those before, of which something was found or not
 came_again : (Raw → ℕ) → List Raw → List Raw → Bool → Bool
@@ -339,11 +345,13 @@ repeats_says (b ∷ before) r =
 badly_told : (before rs : List Raw) → Some (λ r. coded_of r ≡ Badly) rs → none_wrong badly_coded before rs ≡ false
 badly_told before (r ∷ rs) (inl h) = rw h
 badly_told before (r ∷ rs) (inr h) = rw (badly_told (before ++ r ∷ []) rs h) (and-false (not (is_badly (coded_of r))))
+badly_told before [] x' = elim x' [ ]
 
 unfit_told : (es : List Entry) → All EntryDecoded es → Some NoPacketFits es → every entry_fittable es ≡ false
 unfolding every
 unfit_told (e ∷ es) d (inl h) = rw (says_no (fittable_says e.filter d.0.filter.sound.in_range) h)
 unfit_told (e ∷ es) d (inr h) = rw (unfit_told es d.1 h) (and-false (entry_fittable e))
+unfit_told [] d x'' = elim x'' [ ]
 
 -- that a packet fits is told so of any filter, its numbers in range or not
 fit_told : (es : List Entry) → All (λ e. SomePacketFits e.filter) es → every entry_fittable es ≡ true
@@ -418,4 +426,4 @@ module _ (xs : List ℕ) where
       go short not_framed q = unframed
       go short (filters operation rs) q = filters_within (record { short = short; operation = operation; raws = rs; framed = q })
       go short (identifiers ids) q = omega arith
-      go short (bare_framed operation) q = omega arith
+      go short (bare_framed kind) q = omega arith

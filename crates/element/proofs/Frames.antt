@@ -67,7 +67,7 @@ abbrev pub Listed : List ℕ → Framed → Type 0
 Listed s not_framed = Unit {0}
 Listed s (filters operation rs) = FilterList s rs
 Listed s (identifiers xs) = IdentifierList s xs
-Listed s (bare operation) = Unit {0}
+Listed s (bare kind) = Unit {0}
 
 module _ (x : ℕ) (xs : List ℕ) where
   set_listed : (operation : SetOperation) (e n : ℕ) → Listed (x ∷ xs) (framed_set operation e n xs)
@@ -143,7 +143,7 @@ module _ (s : List ℕ) where
       go not_framed h = refl
       go (filters operation rs) h = let z : ◌≡◌ {A = ℕ} 0 1 = cc in absurd (omega arith)
       go (identifiers xs) h = let z : ◌≡◌ {A = ℕ} 0 1 = cc in absurd (omega arith)
-      go (bare operation) h = let z : ◌≡◌ {A = ℕ} 0 1 = cc in absurd (omega arith)
+      go (bare kind) h = let z : ◌≡◌ {A = ℕ} 0 1 = cc in absurd (omega arith)
 
   pub filters_framed : (operation : SetOperation) (n : ℕ) → frame_of (framed_of s) ≡ Filters operation n → FiltersFramed s operation n
   filters_framed operation n = go (framed_of s) refl (listed s)

@@ -101,7 +101,7 @@ unfolding given
 frame_given not_framed h q = some_number Operation q
 frame_given (filters operation rs) h q = entries_given (length rs) h.0 operation (entries_of rs) (entries_into rs h.1) q
 frame_given (identifiers xs) h q = identifiers_given xs h
-frame_given (bare operation) h q = rw (none_held, none_marked_lem)
+frame_given (bare kind) h q = rw (none_held, none_marked_lem)
 
 pub reads_given : (xs : List ℕ) → All Octet xs → number_of (read_value xs).answer ≡ 0 → given (read_value xs) ≡ true
 unfolding read_value

@@ -4,7 +4,7 @@ use mathlib.Core.Path.{◌≡◌, refl, ap, ◌∙◌}
 use mathlib.Core.Bool.{Bool, true, false, not}
 use mathlib.Core.List.{List, [], ◌∷◌, ◌++◌, map, map-append}
 use mathlib.Core.Logic.{⊎_elim}
-use Prim.Native.Nat.{ℕ, ◌+◌, ◌≤◌, ◌<◌}
+use Prim.Native.Nat.{ℕ, ◌≤◌, ◌<◌}
 use native.Mathlib.Omega.{arith}
 use lib.Dec.{eqb, leb}
 use lib.ListN.{length, drop, length-drop, length-append}
@@ -151,13 +151,13 @@ module _ (s : List ℕ) where
   Short not_framed = Unit {0}
   Short (filters operation rs) = length s ≤ longest
   Short (identifiers xs) = Unit {0}
-  Short (bare_framed operation) = Unit {0}
+  Short (bare_framed kind) = Unit {0}
 
   short : (F : Framed) → length s ≤ longest → Short F
   short not_framed h = tt
   short (filters operation rs) h = h
   short (identifiers xs) h = tt
-  short (bare_framed operation) h = tt
+  short (bare_framed kind) h = tt
 
   within : Listed s (framed_within s) × Short (framed_within s)
   within = go (leb (length s) longest) refl
@@ -174,7 +174,7 @@ module _ (s : List ℕ) where
       go not_framed l = refl
       go (filters operation rs) l = rw l.there
       go (identifiers xs) l = refl
-      go (bare_framed operation) l = refl
+      go (bare_framed kind) l = refl
 
   pub identifiers_there : identifiers_end (frame_of (framed_within s)) ≤ length s
   identifiers_there = go (framed_within s) within.0
@@ -183,7 +183,7 @@ module _ (s : List ℕ) where
       go not_framed l = omega arith
       go (filters operation rs) l = omega arith
       go (identifiers xs) l = l.few
-      go (bare_framed operation) l = omega arith
+      go (bare_framed kind) l = omega arith
 
   abbrev judged : Frame → Judged
   judged frame = judged_of (found_split found_start (split_of (filters_in frame) (drop 1 s)))
@@ -196,13 +196,13 @@ module _ (s : List ℕ) where
   place_for not_framed = unframed_within s
   place_for (filters operation rs) = filters_place rs
   place_for (identifiers xs) = 0
-  place_for (bare_framed operation) = 0
+  place_for (bare_framed kind) = 0
 
   place_short : leb (length s) longest ≡ true → (F : Framed) → place_for F ≡ framed_place F s
   place_short e not_framed = rw e
   place_short e (filters operation rs) = refl
   place_short e (identifiers xs) = refl
-  place_short e (bare_framed operation) = refl
+  place_short e (bare_framed kind) = refl
 
   module _ (octets : All Octet s) where
     precedences : (rs : List Raw) (rest : List ℕ) → split_of (length rs) (drop 1 s) ≡ split rs rest → All OctetPrecedence rs
@@ -213,7 +213,7 @@ module _ (s : List ℕ) where
     frame_parts not_framed l = refl
     frame_parts (filters operation rs) l = rw l.there (filters_judged operation rs (precedences rs l.rest l.there))
     frame_parts (identifiers xs) l = rw l.first
-    frame_parts (bare_framed operation) l = refl
+    frame_parts (bare_framed kind) l = refl
 
     pub parts_read : parts (frame_of (framed_within s)) ≡ read_element s
     unfolding read_element unplaced read_value place_of
@@ -246,4 +246,4 @@ module _ (s : List ℕ) where
             rw (l.there, found_badly rs small, found_unfit rs small, found_repeated rs small)
             (either _ _ (below badly_coded) (either _ _ (below fits_nothing) (below repeats_one)))
         go (identifiers xs) l h = omega arith
-        go (bare_framed operation) l h = omega arith
+        go (bare_framed kind) l h = omega arith

@@ -7,7 +7,6 @@ mod Splitting
 mod Frames
 mod Offsets
 pub mod Stepping
-mod Held
 mod Keeping
 pub mod Earliest
 mod Judging

@@ -60,7 +60,7 @@ pub placed_chained : (F : Framed) → Chained 1 (located_in F)
 placed_chained not_framed = tt
 placed_chained (filters operation rs) = filters_chained 1 rs
 placed_chained (identifiers xs) = identifiers_chained 1 xs
-placed_chained (bare operation) = tt
+placed_chained (bare kind) = tt
 
 pub nothing_before : (ps : List Located) (from at : ℕ) → Chained from ps → at < from → located_at ps at ≡ nothing_at at
 unfolding located_at

@@ -15,13 +15,13 @@ use Rattle.element.proofs.Causes.{some_number}
 placed_number_lem : (place : ℕ) (a : Answer) → number_of (at_place place a) ≡ number_of a
 placed_number_lem place (Filters operation) = refl
 placed_number_lem place Identifiers = refl
-placed_number_lem place (Bare operation) = refl
+placed_number_lem place (Bare kind) = refl
 placed_number_lem place (Refused refusal) = refl
 
 placed_still : (place : ℕ) (a : Answer) → number_of a ≡ 0 → at_place place a ≡ a
 placed_still place (Filters operation) q = refl
 placed_still place Identifiers q = refl
-placed_still place (Bare operation) q = refl
+placed_still place (Bare kind) q = refl
 placed_still place (Refused refusal) q = some_number refusal.cause q
 
 pub placed_same : (place : ℕ) (e : Element) → number_of e.answer ≡ 0 → placed place e ≡ e
@@ -45,5 +45,5 @@ module _ (xs : List ℕ) where
       go : (a : Answer) → verdict_on (at_place (place_of xs) a) ≡ refused_for refusal → refusal.place ≡ place_of xs
       go (Filters operation) q = absurd (let z : ◌≡◌ {A = ℕ} 0 1 = cc in omega arith)
       go Identifiers q = absurd (let z : ◌≡◌ {A = ℕ} 0 1 = cc in omega arith)
-      go (Bare operation) q = absurd (let z : ◌≡◌ {A = ℕ} 0 1 = cc in omega arith)
+      go (Bare kind) q = absurd (let z : ◌≡◌ {A = ℕ} 0 1 = cc in omega arith)
       go (Refused r) q = let s : record { cause = r.cause; place = place_of xs } ≡ refusal = cc in ap (λ (r : Refusal). r.place) (sym s)

@@ -152,7 +152,7 @@ unfolding fold
 frame_hands not_framed q = some_number Operation q
 frame_hands (filters operation rs) q = entries_hand operation rs _ (entries_of rs) refl (filters_handed 1 rs) q
 frame_hands (identifiers xs) q = rw (identifiers_handed 1 xs) (record { entries = identifiers_entries xs; sets = identifiers_lay xs no_filters no_marks })
-frame_hands (bare operation) q = record { entries = tt; sets = refl }
+frame_hands (bare kind) q = record { entries = tt; sets = refl }
 
 -- ---- The whole value
 -- an answer that is no cause
@@ -163,7 +163,7 @@ record NoCause (a : Answer) : Type 0 where
 no_cause : (a : Answer) → number_of a ≡ 0 → NoCause a
 no_cause (Filters operation) q = record { start = refl; nth = λ hs n. refl }
 no_cause Identifiers q = record { start = refl; nth = λ hs n. refl }
-no_cause (Bare operation) q = record { start = refl; nth = λ hs n. refl }
+no_cause (Bare kind) q = record { start = refl; nth = λ hs n. refl }
 no_cause (refused_with refusal) q = some_number refusal.cause q
 
 module _ (s : List ℕ) where
@@ -212,7 +212,7 @@ module _ (s : List ℕ) where
       go : (a : Answer) → (read_element s).answer ≡ a → look_at s (after_all s (first_offset s) n) ≡ nth_by (verdict_on (read_element s).answer) (handed_out s) n
       go (Filters operation) e = all (rw e)
       go Identifiers e = all (rw e)
-      go (Bare operation) e = all (rw e)
+      go (Bare kind) e = all (rw e)
       go (refused_with refusal) e =
           let h = hands_out_cause s refusal e in
           rw (still n (first_offset s) h.again, e) h.cause
@@ -233,5 +233,5 @@ nth_number s n = go (read_element s).answer refl
     go : (a : Answer) → (read_element s).answer ≡ a → handed_number (nth_by (verdict_on (read_element s).answer) (handed_out s) n) ≡ number_of (read_element s).answer
     go (Filters operation) e = rw e (entry_number (handed_out s) (hands_out_all s (rw e)).entries n)
     go Identifiers e = rw e (entry_number (handed_out s) (hands_out_all s (rw e)).entries n)
-    go (Bare operation) e = rw e (entry_number (handed_out s) (hands_out_all s (rw e)).entries n)
+    go (Bare kind) e = rw e (entry_number (handed_out s) (hands_out_all s (rw e)).entries n)
     go (refused_with refusal) e = rw e

@@ -230,7 +230,7 @@ module _ (xs : List ℕ) where
       go : (a : Answer) → ((refusal : Refusal) → a ≡ Refused refusal → refusal.place ≤ longest) → TakenApart (placed_number a) a
       go (Filters operation) h = record { reads = λ q. refl; cause = refl; place = λ refusal q. absurd (let z : ◌≡◌ {A = ℕ} 0 1 = cc in omega arith) }
       go Identifiers h = record { reads = λ q. refl; cause = refl; place = λ refusal q. absurd (let z : ◌≡◌ {A = ℕ} 0 1 = cc in omega arith) }
-      go (Bare operation) h = record { reads = λ q. refl; cause = refl; place = λ refusal q. absurd (let z : ◌≡◌ {A = ℕ} 0 1 = cc in omega arith) }
+      go (Bare kind) h = record { reads = λ q. refl; cause = refl; place = λ refusal q. absurd (let z : ◌≡◌ {A = ℕ} 0 1 = cc in omega arith) }
       go (Refused r) h =
           let small = h r refl in
           record { reads = λ q. some_number r.cause q; cause = omega arith; place = λ refusal q. let same : r ≡ refusal = cc in rw (← same) (omega arith) }

@@ -245,7 +245,7 @@ abbrev is_framed : Framed → Bool
 is_framed not_framed = false
 is_framed (filters operation rs) = true
 is_framed (identifiers ids) = true
-is_framed (bare operation) = true
+is_framed (bare kind) = true
 
 abbrev fits_left : ℕ → Left → Bool
 fits_left e past = false
@@ -279,7 +279,7 @@ module _ (e n : ℕ) (xs : List ℕ) where
 
 bare_framed_lem : (e n : ℕ) (xs : List ℕ) (operation : BareOperation) → is_framed (framed_bare operation e n xs) ≡ eqb n 0 && fits_left e (after_octets n xs)
 bare_framed_lem e zero xs operation = framed_pick (rest_fits e xs) (bare operation) refl ∙ rw (le-leb 0 (length xs) (omega arith))
-bare_framed_lem e (suc n) xs operation = rw (ne_eqb (suc n) 0 (λ z. absurd (omega arith)))
+bare_framed_lem e (suc n) xs kind = rw (ne_eqb (suc n) 0 (λ z. absurd (omega arith)))
 
 other_framed : (e n : ℕ) (xs : List ℕ) (operation : ℕ) → 7 ≤ operation
     → is_framed (framed_by operation e n xs) ≡ count_fits operation n && fits_left e (left_after operation n xs)
@@ -305,7 +305,7 @@ unframed : (F : Framed) → is_framed F ≡ false → F ≡ not_framed
 unframed not_framed h = refl
 unframed (filters operation rs) h = absurd (false≢true (sym h))
 unframed (identifiers ids) h = absurd (false≢true (sym h))
-unframed (bare operation) h = absurd (false≢true (sym h))
+unframed (bare kind) h = absurd (false≢true (sym h))
 
 module _ (x : ℕ) (xs : List ℕ) where
   abbrev counts : Bool

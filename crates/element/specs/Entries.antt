@@ -44,7 +44,7 @@ abbrev pub located_in : Framed → List Located
 located_in not_framed = []
 located_in (filters operation rs) = located_filters 1 rs
 located_in (identifiers xs) = located_identifiers 1 xs
-located_in (bare operation) = []
+located_in (bare kind) = []
 
 unfoldable pub located_of : List ℕ → List Located
 located_of xs = located_in (framed_of xs)

@@ -24,14 +24,14 @@ cause_number Coding = 45
 abbrev pub number_of : Answer → ℕ
 number_of (Filters operation) = 0
 number_of Identifiers = 0
-number_of (Bare operation) = 0
+number_of (Bare kind) = 0
 number_of (Refused refusal) = cause_number refusal.cause
 
 -- document 02, 6/14, for the C side: cause and place in one number, 0 of what reads
 abbrev pub placed_number : Answer → ℕ
 placed_number (Filters operation) = 0
 placed_number Identifiers = 0
-placed_number (Bare operation) = 0
+placed_number (Bare kind) = 0
 placed_number (Refused refusal) = cause_number refusal.cause * 256 + refusal.place
 
 -- "or the reader's cause": whether an answer is one
@@ -42,7 +42,7 @@ pub data Verdict : Type 0 where
 abbrev pub verdict_on : Answer → Verdict
 verdict_on (Filters operation) = accepted
 verdict_on Identifiers = accepted
-verdict_on (Bare operation) = accepted
+verdict_on (Bare kind) = accepted
 verdict_on (Refused refusal) = refused_for refusal
 
 abbrev pub handed_number : Handed → ℕ

@@ -21,4 +21,4 @@ abbrev pub InOrder : Framed → Type 0
 InOrder not_framed = ⊥
 InOrder (filters operation rs) = Rising (map identifier_of rs) × All (λ r. Rising (types_from 0 r.contents)) rs
 InOrder (identifiers xs) = Rising (map identifier_in xs)
-InOrder (bare operation) = Unit {0}
+InOrder (bare kind) = Unit {0}

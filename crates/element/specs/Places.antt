@@ -90,7 +90,7 @@ abbrev pub framed_place : Framed → List ℕ → ℕ
 framed_place not_framed xs = unframed_place xs
 framed_place (filters operation rs) xs = filters_place rs
 framed_place (identifiers ids) xs = 0
-framed_place (bare operation) xs = 0
+framed_place (bare kind) xs = 0
 
 unfoldable pub place_of : List ℕ → ℕ
 place_of xs = pick (leb (length xs) longest) (framed_place (framed_of xs) xs) 0

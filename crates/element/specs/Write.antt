@@ -124,7 +124,7 @@ marks_given marks = one_to_fifteen (length (marks_from 0 marks))
 abbrev pub given_by : Answer → List Filter → List Bool → Bool
 given_by (Filters operation) row marks = row_given row && every not marks
 given_by Identifiers row marks = every empty_place row && marks_given marks
-given_by (Bare operation) row marks = every empty_place row && every not marks
+given_by (Bare kind) row marks = every empty_place row && every not marks
 given_by (Refused refusal) row marks = false
 
 unfoldable pub given : Element → Bool

@@ -5,21 +5,21 @@ ghost use Rattle.element.specs.Numbers.{cause_number, number_of, placed_number};
 use filter::Filter;
 use filter::component::PLACES;
 
-#[derive(Drop)]
+#[derive(Clone, Copy)]
 pub enum SetOperation {
     Create,
     Add,
     Replace,
 }
 
-#[derive(Drop)]
+#[derive(Clone, Copy)]
 pub enum BareOperation {
     DeleteTft,
     NoOperation,
 }
 
 // 42, 44 and 45 of document 01.
-#[derive(Drop)]
+#[derive(Clone, Copy)]
 pub enum Cause {
     Operation,
     Semantics,
@@ -27,13 +27,13 @@ pub enum Cause {
 }
 
 // The place is the offset, from 0, of what is wrong in the value.
-#[derive(Drop)]
+#[derive(Clone, Copy)]
 pub struct Refusal {
     pub cause: Cause,
     pub place: u8,
 }
 
-#[derive(Drop)]
+#[derive(Clone, Copy)]
 pub enum Answer {
     Filters(SetOperation),
     Identifiers,
@@ -42,7 +42,7 @@ pub enum Answer {
 }
 
 // The filter with identifier n stands in place n, and so does the mark of identifier n; what the answer does not use is empty.
-#[derive(Drop)]
+#[derive(Clone, Copy)]
 pub struct Element {
     pub answer: Answer,
     pub filters: [Filter; PLACES],

@@ -13,19 +13,20 @@ use filter::component::{
 };
 use filter::{Address, Filter};
 
-#[derive(Drop)]
+#[derive(Clone, Copy)]
 pub enum Coded {
     Badly,
     Well(Filter),
 }
 
 // The filter with one component more, and the place after it.
-#[derive(Drop)]
+#[derive(Clone, Copy)]
 pub enum Step {
     Halt,
     Next(Filter, usize),
 }
 
+#[tactic(auto, using(laws::proofs::Parts::part_skip))]
 fn address_at(s: &[u8], at: usize) -> Address
     requires { at + 16 ≤ length s.now }
     ensures { result ≡ address_of (take 16 (drop at s.now)) }
@@ -45,6 +46,7 @@ fn label_at(s: &[u8], at: usize) -> u32
 }
 
 // The component of type t, a known one, whose value stands at `at`.
+#[tactic(auto, using(laws::proofs::Parts::part_skip), unfolding(crate::specs::Contents::component_of, crate::specs::Contents::length_of))]
 fn add_component(f: Filter, t: u8, s: &[u8], at: usize) -> Filter
     requires { (at + length_of t ≤ length s.now) × (known t ≡ true) }
     ensures { result ≡ added f (component_of t (take (length_of t) (drop at s.now))) }
@@ -72,6 +74,7 @@ fn add_component(f: Filter, t: u8, s: &[u8], at: usize) -> Filter
     }
 }
 
+#[tactic(auto, unfolding(crate::specs::Inner::Walk::step_at))]
 fn step_at(f: Filter, s: &[u8], at: usize) -> Step
     requires { at < length s.now }
     ensures { result ≡ step_at f s.now at }
@@ -92,6 +95,7 @@ fn step_at(f: Filter, s: &[u8], at: usize) -> Step
 }
 
 // What all the octets of s say, f being the filter without a component.
+#[tactic(auto, using(crate::proofs::Reading::end, crate::proofs::Reading::further, crate::proofs::Reading::inside, crate::proofs::Reading::nothing, crate::proofs::Reading::start, crate::proofs::Reading::turn))]
 pub(crate) fn read_contents(f: Filter, s: &[u8]) -> Coded
     ensures { result ≡ contents_of f s.now }
 {

@@ -16,7 +16,7 @@ use crate::read::read;
 use filter::Filter;
 
 // A filter comes with its identifier.
-#[derive(Drop)]
+#[derive(Clone, Copy)]
 pub enum Handed {
     Filter(u8, Filter),
     Identifier(u8),
@@ -36,13 +36,14 @@ pub fn handed_number(handed: Handed) -> u8
     }
 }
 
-#[derive(Drop)]
+#[derive(Clone, Copy)]
 pub struct Entries<'a> {
     value: &'a [u8],
     at: usize,
 }
 
 // Whether one of the n filters begins at `at`; only their length octets are looked at.
+#[tactic(auto, using(crate::proofs::Offsets::turn_found, crate::proofs::Splitting::turn_inside, crate::proofs::Offsets::turn_passed, crate::proofs::Splitting::turn_whole), unfolding(crate::specs::Inner::Walk::begins_at, crate::specs::Entries::located_filters, crate::specs::Framing::split_of))]
 fn filter_begins(value: &[u8], n: u8, at: usize) -> bool
     requires { whole (split_of n (drop 1 value.now)) ≡ true }
     ensures { result ≡ begins_at (located_split 1 (split_of n (drop 1 value.now))) at }
@@ -66,6 +67,7 @@ fn identifier_begins(n: u8, at: usize) -> bool
     (1 <= at) & (at <= wide(n))
 }
 
+#[tactic(auto, using(crate::proofs::Offsets::begun, crate::proofs::Offsets::nothing_begins))]
 fn filter_at(value: &[u8], n: u8, at: usize) -> Handed
     requires { whole (split_of n (drop 1 value.now)) ≡ true }
     ensures { result ≡ (located_at (located_split 1 (split_of n (drop 1 value.now))) at).entry }
@@ -80,6 +82,7 @@ fn filter_at(value: &[u8], n: u8, at: usize) -> Handed
     }
 }
 
+#[tactic(auto, using(laws::proofs::Tests::both, crate::proofs::Offsets::identifier_nowhere, crate::proofs::Offsets::identifier_there))]
 fn identifier_at(value: &[u8], n: u8, at: usize) -> Handed
     requires { 1 + n ≤ length value.now }
     ensures { result ≡ (located_at (located_identifiers 1 (take n (drop 1 value.now))) at).entry }
@@ -90,6 +93,7 @@ fn identifier_at(value: &[u8], n: u8, at: usize) -> Handed
     Handed::Identifier(identifier_in(value[at]))
 }
 
+#[tactic(auto, using(crate::proofs::Offsets::begun, crate::proofs::Offsets::nothing_begins))]
 fn after_filter(value: &[u8], n: u8, at: usize) -> usize
     requires { whole (split_of n (drop 1 value.now)) ≡ true }
     ensures { result ≡ (located_at (located_split 1 (split_of n (drop 1 value.now))) at).after }
@@ -114,6 +118,7 @@ fn cause_of(value: &[u8]) -> Handed
 }
 
 // The element is judged here, once; from 1 on no offset asks for it again.
+#[tactic(auto, unfolding(crate::specs::Entries::first_offset))]
 fn start(value: &[u8]) -> usize
     ensures { result ≡ first_offset value.now }
 {
@@ -127,6 +132,7 @@ fn start(value: &[u8]) -> usize
     }
 }
 
+#[tactic(auto, using(crate::proofs::Frames::filters_framed, crate::proofs::Frames::filters_whole, crate::proofs::Frames::identifiers_framed, crate::proofs::Offsets::placed_bare, crate::proofs::Offsets::placed_filters, crate::proofs::Offsets::placed_identifiers, crate::proofs::Offsets::placed_none), unfolding(crate::specs::Entries::located_at, crate::specs::Entries::look_at))]
 fn look_at(value: &[u8], at: usize) -> Handed
     ensures { result ≡ look_at value.now at }
 {
@@ -142,6 +148,7 @@ fn look_at(value: &[u8], at: usize) -> Handed
     }
 }
 
+#[tactic(auto, using(crate::proofs::Offsets::after_by, laws::proofs::Tests::both, crate::proofs::Frames::filters_framed, crate::proofs::Frames::filters_whole, crate::proofs::Offsets::identifier_nowhere, crate::proofs::Offsets::identifier_there, crate::proofs::Frames::identifiers_framed, crate::proofs::Offsets::placed_bare, crate::proofs::Offsets::placed_filters, crate::proofs::Offsets::placed_identifiers, crate::proofs::Offsets::placed_none), unfolding(crate::specs::Entries::located_at))]
 fn after(value: &[u8], at: usize) -> usize
     ensures { result ≡ after_at value.now at }
 {
@@ -159,6 +166,7 @@ fn after(value: &[u8], at: usize) -> usize
     }
 }
 
+#[tactic(auto, unfolding(crate::specs::Entries::after_all))]
 fn after_all(value: &[u8], at: usize, n: u8) -> usize
     ensures { result ≡ after_all value.now at n }
 {
@@ -199,6 +207,7 @@ pub fn skipped<'a>(e: Entries<'a>, n: u8) -> Entries<'a>
 }
 
 // Entry n, counted from 0.
+#[tactic(auto, using(crate::proofs::Stepping::nth_steps))]
 pub fn nth(value: &[u8], n: u8) -> Handed
     ensures { result ≡ nth_of value.now n }
 {

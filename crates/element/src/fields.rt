@@ -15,7 +15,7 @@ use filter::{Address, Class, Filter, Index, Label, Port, Protocol, RemoteAddress
 const KINDS: usize = 7;
 
 // None, a type with a number of its length, or IPv6 addresses.
-#[derive(Drop)]
+#[derive(Clone, Copy)]
 pub enum Field {
     No,
     Narrow(u8, u64),
@@ -108,6 +108,7 @@ fn fields(f: Filter) -> [Field; KINDS]
     ]
 }
 
+#[tactic(auto, using(laws::proofs::Octets::length_be))]
 fn field_size(x: Field) -> usize
     ensures { (result ≡ length (field_octets x)) × (result ≤ 33) }
 {
@@ -118,6 +119,7 @@ fn field_size(x: Field) -> usize
     }
 }
 
+#[tactic(auto, using(crate::proofs::Writing::contents_fields, crate::proofs::Writing::fields_by_places, filter::proofs::Typed::filter_in_range, laws::proofs::Loops::places_end, laws::proofs::Loops::size_next))]
 pub(crate) fn contents_size(f: Filter) -> usize
     ensures { (result ≡ length (contents_octets f)) × (result ≤ 231) }
 {
@@ -130,6 +132,7 @@ pub(crate) fn contents_size(f: Filter) -> usize
     n
 }
 
+#[tactic(auto, using(crate::proofs::Writing::address_stores))]
 fn put_address(b: &mut [u8], at: usize, x: Address)
     requires { at + 16 ≤ length b.old }
     ensures { b.new ≡ sets b.old at (address_bytes x) }
@@ -139,6 +142,7 @@ fn put_address(b: &mut [u8], at: usize, x: Address)
 }
 
 // One component into b from `at`; the place after it. A type's number has at most eight octets.
+#[tactic(auto, using(laws::proofs::Octets::length_be, crate::proofs::Writing::wide_stores))]
 fn put_field(b: &mut [u8], at: usize, x: Field) -> usize
     requires { (at + length (field_octets x) ≤ length b.old) × (narrow x ≡ true) }
     ensures { (result ≡ at + length (field_octets x)) × (b.new ≡ sets b.old at (field_octets x)) }
@@ -161,6 +165,7 @@ fn put_field(b: &mut [u8], at: usize, x: Field) -> usize
 }
 
 // The filter's contents into b from `at`; the place after them.
+#[tactic(auto, using(crate::proofs::Writing::contents_fields, crate::proofs::Writing::fields_by_places, filter::proofs::Typed::filter_in_range, crate::proofs::Writing::narrow_at, laws::proofs::Loops::places_end, laws::proofs::Loops::stored_done, laws::proofs::Loops::stored_next, laws::proofs::Loops::stored_room))]
 pub(crate) fn put_contents(b: &mut [u8], at: usize, f: Filter) -> usize
     requires { at + length (contents_octets f) ≤ length b.old }
     ensures { (result ≡ at + length (contents_octets f)) × (b.new ≡ sets b.old at (contents_octets f)) }

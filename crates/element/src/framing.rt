@@ -10,14 +10,14 @@ use crate::head::{
 };
 use crate::octets::wide;
 
-#[derive(Drop)]
+#[derive(Clone, Copy)]
 pub enum Place {
     Cut,
     At(usize),
 }
 
 // A list of filters or of identifiers comes with its count.
-#[derive(Drop)]
+#[derive(Clone, Copy)]
 pub enum Frame {
     NotFramed,
     Filters(SetOperation, u8),
@@ -32,6 +32,7 @@ pub(crate) fn identifier_in(octet: u8) -> u8
 }
 
 // The end of the part at `at`: `skip` octets, its length, as many octets.
+#[tactic(auto, unfolding(crate::specs::Inner::Walk::part_end))]
 fn part_end(s: &[u8], at: usize, skip: usize) -> Place
     ensures { result ≡ part_end s.now at skip }
 {
@@ -50,6 +51,7 @@ fn part_end(s: &[u8], at: usize, skip: usize) -> Place
 }
 
 // A filter's length stands after two octets.
+#[tactic(auto, using(crate::proofs::Ending::end_from, crate::proofs::Ending::entries_done, crate::proofs::Ending::entry_next, crate::proofs::Ending::inside))]
 pub(crate) fn entries_end(s: &[u8], n: u8) -> Place
     ensures { result ≡ end_of (length s.now) (split_of n s.now) }
 {
@@ -71,6 +73,7 @@ pub(crate) fn entries_end(s: &[u8], n: u8) -> Place
 }
 
 // A parameter's length stands after one octet.
+#[tactic(auto, using(crate::proofs::Ending::fit_from, crate::proofs::Ending::inside, crate::proofs::Ending::parameter_next, crate::proofs::Ending::parameters_end))]
 fn parameters_fit(s: &[u8]) -> bool
     ensures { result ≡ parameters 0 s.now }
 {
@@ -89,6 +92,7 @@ fn parameters_fit(s: &[u8]) -> bool
     true
 }
 
+#[tactic(auto, using(crate::proofs::Ending::none_given, crate::proofs::Ending::none_left, crate::proofs::Ending::some_given))]
 fn rest_fits(e: u8, s: &[u8]) -> bool
     ensures { result ≡ rest_fits e s.now }
 {
@@ -101,6 +105,7 @@ fn rest_fits(e: u8, s: &[u8]) -> bool
     parameters_fit(s)
 }
 
+#[tactic(auto, using(laws::proofs::Parts::part_rest, crate::proofs::Frames::set_cut, crate::proofs::Frames::set_fit, crate::proofs::Frames::set_unfit, crate::proofs::Frames::set_within))]
 fn frame_filters(operation: SetOperation, e: u8, n: u8, s: &[u8]) -> Frame
     ensures { result ≡ frame_of (framed_set operation e n s.now) }
 {
@@ -119,6 +124,7 @@ fn frame_filters(operation: SetOperation, e: u8, n: u8, s: &[u8]) -> Frame
     }
 }
 
+#[tactic(auto, using(laws::proofs::Parts::part_rest))]
 fn frame_identifiers(e: u8, n: u8, s: &[u8]) -> Frame
     ensures { result ≡ frame_of (framed_identifiers e n s.now) }
 {
@@ -147,6 +153,7 @@ fn frame_bare(operation: BareOperation, e: u8, n: u8, s: &[u8]) -> Frame
     Frame::Bare(operation)
 }
 
+#[tactic(auto, unfolding(crate::specs::Framing::framed_by))]
 fn frame_by(operation: u8, e: u8, n: u8, s: &[u8]) -> Frame
     ensures { result ≡ frame_of (framed_by operation e n s.now) }
 {
@@ -161,6 +168,7 @@ fn frame_by(operation: u8, e: u8, n: u8, s: &[u8]) -> Frame
     }
 }
 
+#[tactic(auto, using(laws::proofs::Parts::part_rest), unfolding(crate::specs::Framing::framed_of))]
 pub(crate) fn frame_of(value: &[u8]) -> Frame
     ensures { result ≡ frame_of (framed_of value.now) }
 {

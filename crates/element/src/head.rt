@@ -47,6 +47,7 @@ pub fn operation_of(value: &[u8]) -> u8
 }
 
 // What step 4 asks: 1 to 255 octets, and an operation that is one.
+#[tactic(auto, unfolding(crate::specs::Head::head_fine))]
 pub fn head_fine(value: &[u8]) -> bool
     ensures { result ≡ head_fine value.now }
 {

@@ -12,7 +12,7 @@ use filter::component::{PLACES, PRECEDENCES};
 use filter::sample::fittable;
 
 // The first of the reader's steps that some filter fails: coding, fit, repeats.
-#[derive(Drop)]
+#[derive(Clone, Copy)]
 pub enum Verdict {
     Badly,
     Unfit,
@@ -22,7 +22,7 @@ pub enum Verdict {
 
 // The place is where the earliest filter begins that is wrong so, and 0 where none is. The row has the filters by identifier, and is empty where anything was
 // found wrong.
-#[derive(Drop)]
+#[derive(Clone, Copy)]
 pub struct Judged {
     pub verdict: Verdict,
     pub place: usize,
@@ -40,6 +40,7 @@ fn marked_before(marks: &mut [bool], x: usize) -> bool
 }
 
 // The filter at `at`, which is all there.
+#[tactic(auto, unfolding(crate::specs::Contents::coded_of))]
 pub(crate) fn coded_at(s: &[u8], at: usize) -> Coded
     requires { (at + 3 ≤ length s.now) × (at + 3 + get_or s.now (at + 2) 0 ≤ length s.now) }
     ensures { result ≡ coded_of (raw_at s.now at) }
@@ -85,6 +86,7 @@ fn first_place(badly: usize, unfit: usize, repeated: usize) -> usize
 }
 
 // The n filters of the value s, which are all there. What is found of them stays in locals: a state that is handed on with its row is copied each turn.
+#[tactic(auto, using(crate::proofs::Splitting::raw_long, crate::proofs::Splitting::reached_judged, crate::proofs::Splitting::reached_more, crate::proofs::Splitting::turn_inside), unfolding(crate::specs::Inner::Walk::found_raw, crate::specs::Read::no_filters, crate::specs::Read::no_marks, crate::specs::Inner::Walk::no_precedences))]
 pub(crate) fn judge_all(s: &[u8], n: u8) -> Judged
     requires { whole (split_of n (drop 1 s.now)) ≡ true }
     ensures { result ≡ judged_of (found_split found_start (split_of n (drop 1 s.now))) }

@@ -16,6 +16,7 @@ const LENGTHS: [u8; 256] = [
     0,
 ];
 
+#[tactic(auto, using(laws::proofs::Says::says_all, laws::proofs::Says::says_and, laws::proofs::Says::says_eq, laws::proofs::Says::says_le))]
 fn length_in(lengths: &[u8; 256], t: u8) -> usize
     requires { lengths_right lengths.now ≡ true }
     ensures { (result ≡ length_of t) × (result ≤ 32) }
@@ -23,6 +24,7 @@ fn length_in(lengths: &[u8; 256], t: u8) -> usize
     wide(lengths[t as usize])
 }
 
+#[tactic(auto, unfolding(laws::specs::Index::all_below, crate::specs::Contents::length_of))]
 pub(crate) fn component_length(t: u8) -> usize
     ensures { (result ≡ length_of t) × (result ≤ 32) }
 {

@@ -1,3 +1,4 @@
+#![tactic(auto)]
 // The template's bytes: the reader, also entry by entry and of portions, the writer, the component lengths, and the number of an answer.
 pub mod answer;
 mod contents;

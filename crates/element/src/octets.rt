@@ -10,6 +10,7 @@ pub(crate) fn wide(x: u8) -> usize
 }
 
 // The number that the w octets from `at` are.
+#[tactic(auto, using(laws::proofs::Octets::be_more, laws::proofs::Octets::octet_fits, laws::proofs::Octets::octet_more), unfolding(laws::specs::Octets::be_from))]
 pub(crate) fn number_at(s: &[u8], at: usize, w: usize) -> u64
     requires { (at + w ≤ length s.now) × (w ≤ 8) }
     ensures { (result ≡ be_of (take w (drop at s.now))) × (result < 2 ^ (8 * w)) }
@@ -24,6 +25,7 @@ pub(crate) fn number_at(s: &[u8], at: usize, w: usize) -> u64
 }
 
 // The lowest w octets of v into b from `at`.
+#[tactic(auto, using(laws::proofs::Octets::store_end, laws::proofs::Octets::store_next))]
 pub(crate) fn store(b: &mut [u8], at: usize, w: usize, v: u64)
     requires { (at + w ≤ length b.old) × (w ≤ 8) }
     ensures { b.new ≡ sets b.old at (be_bytes w v) }

@@ -35,6 +35,7 @@ fn count_fits(operation: u8, n: u8) -> bool
 }
 
 // The end of the list of n entries that the octets after octet 1 begin with.
+#[tactic(auto, using(crate::proofs::Unframed::octets_end))]
 fn list_end(operation: u8, n: u8, s: &[u8]) -> Place
     ensures { result ≡ end_left (length s.now) (left_after operation n s.now) }
 {
@@ -49,6 +50,7 @@ fn list_end(operation: u8, n: u8, s: &[u8]) -> Place
 }
 
 // A value of more than 255 octets breaks at 0.
+#[tactic(auto, using(crate::proofs::Unframed::end_within, laws::proofs::Parts::part_rest, crate::proofs::Unframed::place_by, crate::proofs::Unframed::place_nothing, crate::proofs::Unframed::place_something))]
 pub(crate) fn unframed_place(value: &[u8]) -> usize
     ensures { result ≡ unframed_within value.now }
 {

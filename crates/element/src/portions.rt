@@ -10,7 +10,7 @@ use crate::octets::wide;
 use crate::read::read;
 
 // How many octets were announced, how many were fed, and these; zero after them.
-#[derive(Drop)]
+#[derive(Clone, Copy)]
 pub struct Portions {
     pub announced: u8,
     pub fed: u8,
@@ -18,21 +18,21 @@ pub struct Portions {
 }
 
 // Number 0, and 42 and 13 of document 02.
-#[derive(Drop)]
+#[derive(Clone, Copy)]
 pub enum PortionsAnswer {
     Taken,
     TooLong,
     NotTaken,
 }
 
-#[derive(Drop)]
+#[derive(Clone, Copy)]
 pub struct PortionsOutcome {
     pub state: Portions,
     pub answer: PortionsAnswer,
 }
 
 // The element's own number, and 13 and 14 of document 02.
-#[derive(Drop)]
+#[derive(Clone, Copy)]
 pub enum FinishAnswer {
     Read,
     NotSound,
@@ -40,7 +40,7 @@ pub enum FinishAnswer {
 }
 
 // The element is that of all that was fed; where the finish is refused, that of a value without octets.
-#[derive(Drop)]
+#[derive(Clone, Copy)]
 pub struct Finished {
     pub answer: FinishAnswer,
     pub element: Element,
@@ -70,6 +70,7 @@ pub fn finish_number(finished: Finished) -> u8
 }
 
 // Whether some calls give this state.
+#[tactic(auto, using(laws::proofs::Loops::every_done, laws::proofs::Loops::every_more, crate::proofs::Typed::portions_in_range), unfolding(crate::specs::Portions::sound))]
 pub fn sound(p: Portions) -> bool
     ensures { result ≡ sound p }
 {
@@ -82,6 +83,7 @@ pub fn sound(p: Portions) -> bool
     (p.fed <= p.announced) & zero
 }
 
+#[tactic(auto, using(crate::proofs::Holdings::empty_is))]
 fn empty(announced: u8) -> Portions
     ensures { result ≡ holding announced [] }
 {
@@ -93,6 +95,7 @@ fn empty(announced: u8) -> Portions
 }
 
 // A length of any size; after one that is refused the state is the one that announcing 0 gives.
+#[tactic(auto, unfolding(crate::specs::Portions::announce_of))]
 pub fn announce(length: usize) -> PortionsOutcome
     ensures { result ≡ announce_of length }
 {
@@ -108,6 +111,7 @@ pub fn announce(length: usize) -> PortionsOutcome
     }
 }
 
+#[tactic(auto, using(crate::proofs::Holdings::laid_done, crate::proofs::Holdings::laid_more, crate::proofs::Holdings::laid_start, crate::proofs::Typed::portions_in_range, crate::proofs::Holdings::state_of))]
 fn with_portion(p: Portions, portion: &[u8]) -> Portions
     requires { (sound p ≡ true) × (p.fed + length portion.now ≤ p.announced) }
     ensures { result ≡ holding p.announced (fed_of p ++ portion.now) }
@@ -122,6 +126,7 @@ fn with_portion(p: Portions, portion: &[u8]) -> Portions
     next
 }
 
+#[tactic(auto, using(crate::proofs::Holdings::sound_fits, crate::proofs::Holdings::takes_left), unfolding(crate::specs::Portions::takes))]
 fn takes(p: Portions, n: usize) -> bool
     ensures { result ≡ takes p n }
 {
@@ -131,6 +136,7 @@ fn takes(p: Portions, n: usize) -> bool
     n <= wide(p.announced - p.fed)
 }
 
+#[tactic(auto, using(crate::proofs::Holdings::feed_not, crate::proofs::Holdings::feed_taken, crate::proofs::Holdings::takes_says))]
 pub fn feed(p: Portions, portion: &[u8]) -> PortionsOutcome
     ensures { result ≡ feed_of p portion.now }
 {
@@ -146,6 +152,7 @@ pub fn feed(p: Portions, portion: &[u8]) -> PortionsOutcome
     }
 }
 
+#[tactic(auto, using(crate::proofs::Holdings::finish_early, crate::proofs::Holdings::finish_read, crate::proofs::Holdings::finish_unsound))]
 fn finish_answer(p: Portions) -> FinishAnswer
     ensures { result ≡ (finish_of p).answer }
 {
@@ -169,6 +176,7 @@ fn read_end(answer: FinishAnswer, fed: u8) -> usize
 }
 
 // A refused finish reads too, a value without octets: so the element is made in one place.
+#[tactic(auto, using(crate::proofs::Holdings::finish_by_lem, crate::proofs::Typed::portions_in_range))]
 pub fn finish(p: Portions) -> Finished
     ensures { result ≡ finish_of p }
 {

@@ -13,6 +13,7 @@ use crate::places::unframed_place;
 use filter::component::PLACES;
 
 // The identifiers of all the octets of s.
+#[tactic(auto, unfolding(crate::specs::Read::marked, crate::specs::Read::no_marks))]
 fn mark_all(s: &[u8]) -> [bool; PLACES]
     ensures { result ≡ marked s.now no_marks }
 {
@@ -26,6 +27,7 @@ fn mark_all(s: &[u8]) -> [bool; PLACES]
     marks
 }
 
+#[tactic(auto, unfolding(crate::specs::Read::no_marks))]
 fn marks_of(frame: Frame, value: &[u8]) -> [bool; PLACES]
     requires { identifiers_end frame ≤ length value.now }
     ensures { result ≡ marks_of frame value.now }
@@ -66,6 +68,7 @@ fn filters_in(frame: Frame) -> u8
 }
 
 // A value of more than 255 octets is not framed, and its place is 0: so every place is an octet.
+#[tactic(auto, using(crate::proofs::Unframed::unframed_small))]
 fn place_in(frame: Frame, judged: usize, value: &[u8]) -> u8
     requires { judged < 256 }
     ensures { result ≡ place_in frame judged value.now }
@@ -99,6 +102,7 @@ fn frame_within(value: &[u8]) -> Frame
 }
 
 // The element is made in one place, of three parts: an element for each case would be copied to where they meet.
+#[tactic(auto, using(laws::proofs::Typed::all_of, crate::proofs::Judging::filters_there, crate::proofs::Judging::identifiers_there, crate::proofs::Judging::judged_small, crate::proofs::Judging::parts_read))]
 pub fn read(value: &[u8]) -> Element
     ensures { result ≡ read_element value.now }
 {

@@ -11,7 +11,7 @@ use filter::component::{PLACES, PRECEDENCES};
 use filter::sample::place_fine;
 
 // Of the places so far: how many hold a filter, whether the reader could give each, and the precedences seen.
-#[derive(Drop)]
+#[derive(Clone, Copy)]
 pub struct Survey {
     pub count: usize,
     pub given: bool,
@@ -19,6 +19,7 @@ pub struct Survey {
     pub precedences: [bool; PRECEDENCES],
 }
 
+#[tactic(auto, unfolding(crate::specs::Inner::Walk::no_precedences))]
 fn survey_start() -> Survey
     ensures { result ≡ survey_start }
 {
@@ -30,6 +31,7 @@ fn survey_start() -> Survey
     }
 }
 
+#[tactic(auto, unfolding(crate::specs::Inner::Walk::surveyed))]
 fn survey_place(st: Survey, f: Filter) -> Survey
     requires { st.count < place_count }
     ensures { result ≡ surveyed st f }
@@ -45,6 +47,7 @@ fn survey_place(st: Survey, f: Filter) -> Survey
     next
 }
 
+#[tactic(auto, using(laws::proofs::Loops::fold_done, laws::proofs::Loops::fold_more, crate::proofs::Typed::row_in_range, crate::proofs::Surveys::survey_more, crate::proofs::Surveys::survey_row))]
 pub(crate) fn row_given(row: [Filter; PLACES]) -> bool
     ensures { result ≡ row_given row }
 {

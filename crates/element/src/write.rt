@@ -20,14 +20,14 @@ use filter::coding::{empty_place, held};
 use filter::component::PLACES;
 
 // 10, 11 and 9 of document 01.
-#[derive(Drop)]
+#[derive(Clone, Copy)]
 pub enum Unwritten {
     NotGiven,
     TooLong,
     NoRoom,
 }
 
-#[derive(Drop)]
+#[derive(Clone, Copy)]
 pub enum Written {
     Wrote(usize),
     Refused(Unwritten),
@@ -66,6 +66,7 @@ fn bare_number(operation: BareOperation) -> u8
     }
 }
 
+#[tactic(auto, using(laws::proofs::Loops::every_done, laws::proofs::Loops::every_more, crate::proofs::Typed::row_in_range))]
 fn no_filters(row: [Filter; PLACES]) -> bool
     ensures { result ≡ every empty_place row }
 {
@@ -77,6 +78,7 @@ fn no_filters(row: [Filter; PLACES]) -> bool
     all
 }
 
+#[tactic(auto, using(laws::proofs::Loops::every_done, laws::proofs::Loops::every_more, crate::proofs::Typed::marks_long))]
 fn no_marks(marks: [bool; PLACES]) -> bool
     ensures { result ≡ every not marks }
 {
@@ -93,6 +95,7 @@ fn one_if(b: bool) -> u8
     if b { 1 } else { 0 }
 }
 
+#[tactic(auto, using(crate::proofs::Rows::entries_by_places, crate::proofs::Rows::entry_at, crate::proofs::Rows::one_long, crate::proofs::Rows::one_small, laws::proofs::Loops::places_end, crate::proofs::Typed::row_in_range, laws::proofs::Loops::size_next))]
 fn count_filters(row: [Filter; PLACES]) -> u8
     ensures { (result ≡ length (entries_from 0 row)) × (result ≤ place_count) }
 {
@@ -104,6 +107,7 @@ fn count_filters(row: [Filter; PLACES]) -> u8
     n
 }
 
+#[tactic(auto, using(crate::proofs::Rows::marks_by_places, crate::proofs::Typed::marks_long, crate::proofs::Rows::one_long, crate::proofs::Rows::one_small, laws::proofs::Loops::places_end, laws::proofs::Loops::size_next))]
 fn count_marks(marks: [bool; PLACES]) -> u8
     ensures { (result ≡ length (marks_from 0 marks)) × (result ≤ place_count) }
 {
@@ -114,6 +118,7 @@ fn count_marks(marks: [bool; PLACES]) -> u8
     n
 }
 
+#[tactic(auto, unfolding(crate::specs::Write::given, crate::specs::Write::marks_given))]
 fn given_element(element: Element) -> bool
     ensures { result ≡ given element }
 {
@@ -132,12 +137,14 @@ fn given_element(element: Element) -> bool
 }
 
 // How many octets a place of a row is; its identifier makes no difference.
+#[tactic(auto, unfolding(crate::specs::Write::entry_octets, crate::specs::Inner::Walk::place_octets))]
 fn place_size(f: Filter) -> usize
     ensures { (result ≡ length (place_octets 0 f)) × (result ≤ 234) }
 {
     if held(f) { 3 + contents_size(f) } else { 0 }
 }
 
+#[tactic(auto, using(crate::proofs::Rows::octets_by_places, crate::proofs::Rows::place_long, laws::proofs::Loops::places_end, crate::proofs::Typed::row_in_range, laws::proofs::Loops::size_next))]
 fn row_size(row: [Filter; PLACES]) -> usize
     ensures { (result ≡ length (entries_octets (entries_from 0 row))) × (result ≤ 3744) }
 {
@@ -149,6 +156,7 @@ fn row_size(row: [Filter; PLACES]) -> usize
     n
 }
 
+#[tactic(auto, unfolding(crate::specs::Write::octets_of))]
 fn element_size(element: Element) -> usize
     ensures { result ≡ length (octets_of element) }
 {
@@ -164,6 +172,7 @@ fn element_size(element: Element) -> usize
 }
 
 // A place of a row into b from `at`; the place after it in b.
+#[tactic(auto, unfolding(crate::specs::Write::entry_octets, crate::specs::Inner::Walk::place_octets))]
 fn put_place(b: &mut [u8], at: usize, identifier: u8, f: Filter) -> usize
     requires { (at + length (place_octets identifier f) ≤ length b.old) × (identifier < place_count) × (held f ≡ true → f.direction ≤ largest_direction) }
     ensures { (result ≡ at + length (place_octets identifier f)) × (b.new ≡ sets b.old at (place_octets identifier f)) }
@@ -177,6 +186,7 @@ fn put_place(b: &mut [u8], at: usize, identifier: u8, f: Filter) -> usize
     put_contents(b, at + 3, f)
 }
 
+#[tactic(auto, using(laws::proofs::Loops::every_at, crate::proofs::Rows::given_direction, crate::proofs::Rows::octets_by_places, crate::proofs::Typed::row_in_range, laws::proofs::Loops::stored_done, laws::proofs::Loops::stored_next, laws::proofs::Loops::stored_room))]
 fn put_row(b: &mut [u8], at: usize, row: [Filter; PLACES])
     requires { (at + length (entries_octets (entries_from 0 row)) ≤ length b.old) × (every place_fine row ≡ true) }
     ensures { b.new ≡ sets b.old at (entries_octets (entries_from 0 row)) }
@@ -202,6 +212,7 @@ fn put_mark(b: &mut [u8], at: usize, identifier: u8, mark: bool) -> usize
     at + 1
 }
 
+#[tactic(auto, using(crate::proofs::Rows::marks_by_places, crate::proofs::Typed::marks_long, laws::proofs::Loops::stored_done, laws::proofs::Loops::stored_next, laws::proofs::Loops::stored_room))]
 fn put_marks(b: &mut [u8], at: usize, marks: [bool; PLACES])
     requires { at + length (marks_from 0 marks) ≤ length b.old }
     ensures { b.new ≡ sets b.old at (marks_from 0 marks) }
@@ -215,6 +226,7 @@ fn put_marks(b: &mut [u8], at: usize, marks: [bool; PLACES])
 }
 
 // The octets of an element that the reader could give, into b, which has room for them.
+#[tactic(auto, using(laws::proofs::Tests::both), unfolding(crate::specs::Write::given, crate::specs::Write::octets_of, crate::specs::Write::row_given))]
 fn put_element(b: &mut [u8], element: Element)
     requires { (length (octets_of element) ≤ length b.old) × (given element ≡ true) }
     ensures { b.new ≡ sets b.old 0 (octets_of element) }

@@ -163,7 +163,7 @@ abbrev pub filters_in : Frame → ℕ
 filters_in NotFramed = 0
 filters_in (FiltersFrame operation n) = n
 filters_in (IdentifiersFrame n) = 0
-filters_in (BareFrame operation) = 0
+filters_in (BareFrame kind) = 0
 
 abbrev pub refusal : Cause → ℕ → Answer
 refusal cause place = Refused (record { cause = cause; place = place })
@@ -188,20 +188,20 @@ abbrev pub place_in : Frame → ℕ → List ℕ → ℕ
 place_in NotFramed judged s = unframed_within s
 place_in (FiltersFrame operation n) judged s = judged
 place_in (IdentifiersFrame n) judged s = 0
-place_in (BareFrame operation) judged s = 0
+place_in (BareFrame kind) judged s = 0
 
 -- the end of the identifiers, which come after octet 1
 abbrev pub identifiers_end : Frame → ℕ
 identifiers_end NotFramed = 0
 identifiers_end (FiltersFrame operation n) = 0
 identifiers_end (IdentifiersFrame n) = 1 + n
-identifiers_end (BareFrame operation) = 0
+identifiers_end (BareFrame kind) = 0
 
 abbrev pub marks_of : Frame → List ℕ → List Bool
 marks_of NotFramed s = no_marks
 marks_of (FiltersFrame operation n) s = no_marks
 marks_of (IdentifiersFrame n) s = marked (take n (drop 1 s)) no_marks
-marks_of (BareFrame operation) s = no_marks
+marks_of (BareFrame kind) s = no_marks
 
 -- ---- what a row holds, place by place
 abbrev pub survey_start : Survey
