@@ -119,8 +119,7 @@ pub fn read(value: &[u8]) -> Element
 }
 
 // How one element reads, for the stack's C side: 0, or the reader's cause.
-#[unsafe(no_mangle)]
-pub extern "C" fn trospel_element_cause(value: &[u8]) -> u8
+pub fn trospel_element_cause(value: &[u8]) -> u8
     ensures { result ≡ number_of (read_element value.now).answer }
 {
     let element = read(value);
@@ -129,8 +128,7 @@ pub extern "C" fn trospel_element_cause(value: &[u8]) -> u8
 }
 
 // .. and where it broke: 256 times the cause, and the place; 0 where the element reads.
-#[unsafe(no_mangle)]
-pub extern "C" fn trospel_element_refusal(value: &[u8]) -> u16
+pub fn trospel_element_refusal(value: &[u8]) -> u16
     ensures { result ≡ placed_number (read_element value.now).answer }
 {
     let element = read(value);
