@@ -30,7 +30,7 @@ use Rattle.route.specs.declared.answer.Why.{Why}
 use Rattle.route.specs.declared.answer.Why.TheVariants.{Filter as by_filter, Default as by_default, Discard}
 use Rattle.route.specs.Routes.{entry_fits, uplink_at, has_uplink}
 use Rattle.route.specs.Why.{why_none, why_on}
-use Rattle.route.specs.Inner.Notes.{cell_count, fits_at, note_at, notes_of, none_noted, note_filter, note_row, note_bearer, noted_at, FirstNoted, told_at, FirstTold}
+use Rattle.route.specs.Inner.Notes.{cell_count, fits_at, note_at, notes_of, none_noted, note_filter, note_row, note_bearer, noted_at, FirstNoted, FirstTold}
 use Rattle.route.proofs.Firsts.{entry_fits_lem, nothing_fits, fits_in, tells, first_told, never_told}
 
 -- ---- walks that note keep the length

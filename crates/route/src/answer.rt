@@ -3,28 +3,28 @@ ghost use Rattle.std.specs.Prelude.{◌≡◌};
 ghost use Rattle.route.specs.Routes.{number_of};
 ghost use Rattle.route.specs.Why.{routed_by};
 
-#[derive(Drop)]
+#[derive(Clone, Copy)]
 pub enum Route {
     Bearer(u8),
     Discard,
 }
 
 // 1, 8 and 2 of document 01.
-#[derive(Drop)]
+#[derive(Clone, Copy)]
 pub enum Refusal {
     NotWellFormed,
     NoDefault,
     InvalidHeader,
 }
 
-#[derive(Drop)]
+#[derive(Clone, Copy)]
 pub enum Answer {
     Routed(Route),
     Refused(Refusal),
 }
 
 // By which filter a packet goes, with its bearer, place and precedence; or that none fits, and what is done then.
-#[derive(Drop)]
+#[derive(Clone, Copy)]
 pub enum Why {
     Filter(u8, u8, u8),
     Default(u8),

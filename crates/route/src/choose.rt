@@ -7,6 +7,7 @@ use crate::why::why;
 use filter::Header;
 use table::Table;
 
+#[tactic(auto, using(crate::proofs::Whys::why_routes))]
 pub fn route(t: Table, default: u8, header: Header) -> Answer
     ensures { result ≡ route_of t default header }
 {

@@ -37,6 +37,7 @@ pub(crate) fn bearer_at(t: Table, i: usize) -> Bearer
 }
 
 // Notes at the number of each uplink filter of a row whether it fits; gives whether there is one.
+#[tactic(auto, using(crate::proofs::Noting::row_note, crate::proofs::Noting::row_noted_start, crate::proofs::Noting::row_notes, crate::proofs::Noting::row_notes_long, crate::proofs::Noting::row_unnoted, crate::proofs::Noting::row_ups))]
 pub(crate) fn note_row(fitting: &mut [bool], bearer: u8, b: Bearer, header: Header) -> bool
     requires { (length fitting.old ≡ cell_count) × (bearer ≤ last_identity) }
     ensures { (result ≡ has_uplink b.row) × (fitting.new ≡ note_row header b.row bearer fitting.old) }
@@ -73,6 +74,7 @@ fn told_at(cell: u8, p: usize) -> Why
 }
 
 // In the list that begins at `from` positions are tried upward, and left at the first whose entry is noted to fit.
+#[tactic(auto, using(crate::proofs::Firsts::none_more, crate::proofs::Firsts::none_yet))]
 pub(crate) fn first_fit(cells: &[u8], from: usize, fitting: &[bool], otherwise: Why) -> Why
     requires { (length cells.now ≡ held_count) × (from + precedence_count ≤ held_count) × (length fitting.now ≡ cell_count) }
     ensures { FirstTold fitting.now cells.now from otherwise result }

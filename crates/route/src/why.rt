@@ -22,12 +22,14 @@ fn otherwise_of(uplink: bool, default: u8) -> Why
     }
 }
 
+#[tactic(auto, using(crate::proofs::Whys::number_same))]
 pub fn why_number(answer: Why) -> u8
     ensures { result ≡ why_number answer }
 {
     number(routed(answer))
 }
 
+#[tactic(auto, using(table::proofs::Meaning::default_of, crate::proofs::Noting::found_done, crate::proofs::Noting::noted_first, crate::proofs::Noting::noted_more, crate::proofs::Noting::noted_skip, crate::proofs::Noting::noted_start, crate::proofs::Noting::notes_long, table::proofs::Typed::table_in_range, table::proofs::Meaning::well_says), unfolding(crate::specs::Why::why_of))]
 pub fn why(t: Table, default: u8, header: Header) -> Why
     ensures { result ≡ why_of t default header }
 {
