@@ -52,13 +52,13 @@ use Rattle.calls.proofs.Answers.{same_number}
 abbrev is_identifiers : ReadAnswer → Bool
 is_identifiers (Filters operation) = false
 is_identifiers Identifiers = true
-is_identifiers (Bare operation) = false
+is_identifiers (Bare kind) = false
 is_identifiers (read_refused refusal) = false
 
 identifiers_says : (a : ReadAnswer) → Says (is_identifiers a) (a ≡ Identifiers)
 identifiers_says (Filters operation) = record { to = λ e. absurd (false≢true e); from = λ e. ap is_identifiers e }
 identifiers_says Identifiers = says_true refl
-identifiers_says (Bare operation) = record { to = λ e. absurd (false≢true e); from = λ e. ap is_identifiers e }
+identifiers_says (Bare kind) = record { to = λ e. absurd (false≢true e); from = λ e. ap is_identifiers e }
 identifiers_says (read_refused refusal) = record { to = λ e. absurd (false≢true e); from = λ e. ap is_identifiers e }
 
 -- a TFT with filters, of which none stays
@@ -124,7 +124,7 @@ module _ (t : Table) (x : ℕ) (value : List ℕ) (Named Allowed Emptied : Type 
   why_read : HasPassed → (Emptied → ⊥) → (a : ReadAnswer) → read ≡ read_number a → Why (read_number a)
   why_read p n (Filters operation) q = ((p, q), n)
   why_read p n Identifiers q = ((p, q), n)
-  why_read p n (Bare operation) q = ((p, q), n)
+  why_read p n (Bare kind) q = ((p, q), n)
   why_read p n (read_refused refusal) q = why_cause p refusal.cause q
 
   -- n and d are the tests of steps 3 and 5, true where the step refuses nothing; e is step 10's, true where it refuses. What steps 5 and 10 ask is of
@@ -231,7 +231,7 @@ activated_number : (a : ReadAnswer) (t : Table) (bearer link : ℕ) (new : List 
 activated_number (read_refused refusal) t bearer link new = same_number refusal.cause
 activated_number (Filters operation) t bearer link new = laid_number (build (opened_view t (index_of bearer) (Dedicated link))) bearer new true
 activated_number Identifiers t bearer link new = laid_number (build (opened_view t (index_of bearer) (Dedicated link))) bearer new true
-activated_number (Bare operation) t bearer link new = laid_number (build (opened_view t (index_of bearer) (Dedicated link))) bearer new true
+activated_number (Bare kind) t bearer link new = laid_number (build (opened_view t (index_of bearer) (Dedicated link))) bearer new true
 
 -- ---- The calls. Steps 3 to 5 and 10 are asked of the table in which the match is closed; the roles and rows are the same
 module _ (t : Table) (ok : TableInRange t) (x : ℕ) where

@@ -60,7 +60,7 @@ use Rattle.calls.proofs.Applying.{AtHome}
 abbrev pub Unused : ReadAnswer → Element → Type 0
 Unused (Filters operation) e = e.marks ≡ no_marks
 Unused Identifiers e = e.filters ≡ no_filters
-Unused (Bare operation) e = (e.filters ≡ no_filters) × (e.marks ≡ no_marks)
+Unused (Bare kind) e = (e.filters ≡ no_filters) × (e.marks ≡ no_marks)
 Unused (read_refused refusal) e = Unit {0}
 
 abbrev pub UnusedIn : Element → Type 0
@@ -69,7 +69,7 @@ UnusedIn e = Unused e.answer e
 placed_unused : (place : ℕ) (e : Element) (a : ReadAnswer) → Unused a e → Unused (at_place place a) (placed place e)
 placed_unused place e (Filters operation) h = h
 placed_unused place e Identifiers h = h
-placed_unused place e (Bare operation) h = h
+placed_unused place e (Bare kind) h = h
 placed_unused place e (read_refused refusal) h = tt
 
 pub unused : (value : List ℕ) → UnusedIn (read_element value)
@@ -85,7 +85,7 @@ unused value =
     framed not_framed = tt
     framed (filters operation rs) = entries operation (entries_of rs)
     framed (identifiers xs) = refl
-    framed (bare operation) = (refl, refl)
+    framed (bare kind) = (refl, refl)
 
 -- ---- Closing a match, as a table that is made from a view
 -- closing none changes nothing
@@ -508,7 +508,7 @@ module _ (t : Table) (seen : List Seen) (bearer : ℕ) (roles : (i : ℕ) → i 
   by_homes a (read_refused refusal) = λ q. never q refl
   by_homes a (Filters operation) = laid_homes _ (home_there a)
   by_homes a Identifiers = picked Homes (is_dedicated (role_seen seen bearer) && empties_seen seen bearer) _ _ (λ q. never q refl) (laid_homes _ (home_there a))
-  by_homes a (Bare operation) = laid_homes _ (home_there a)
+  by_homes a (Bare kind) = laid_homes _ (home_there a)
 
   decided_homes : (said : ReadAnswer) (x : ℕ) (value : List ℕ) → Homes (decided seen said bearer x value)
   unfolding decided decided_named

@@ -15,7 +15,6 @@ pub mod Answers
 pub mod Checks
 pub mod Places
 pub mod Closing
-pub mod Thin
 pub mod Deciding
 pub mod Applying
 pub mod Opening

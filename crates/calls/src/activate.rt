@@ -15,6 +15,7 @@ use table::list::{only, relisted};
 use table::well_formed::well_formed;
 use table::{Bearer, Role, Table};
 
+#[tactic(auto, using(crate::proofs::Plainly::plain_moves, crate::proofs::Plainly::plain_stands, table::proofs::Typed::table_in_range))]
 pub fn activate_default(t: Table, bearer: u8) -> Outcome
     ensures { result ≡ activate_default_of t bearer }
 {
@@ -40,6 +41,7 @@ fn with_role(b: Bearer, opens: bool, link: u8) -> Bearer
     }
 }
 
+#[tactic(auto, using(crate::proofs::Theorems::activate_dedicated_malformed, crate::proofs::Applying::listed_there, crate::proofs::Applying::marks_long, crate::proofs::Opening::opened_home, crate::proofs::Opening::opened_means, crate::proofs::Applying::see_done, crate::proofs::Applying::see_start, crate::proofs::Applying::seen_role, crate::proofs::Applying::seen_there, crate::proofs::Rows::store_done, crate::proofs::Rows::store_start, crate::proofs::Applying::stored_there, table::proofs::Typed::table_in_range, table::proofs::Meaning::well_says, crate::proofs::Applying::whole))]
 pub fn activate_dedicated(t: Table, bearer: u8, link: u8, transaction: u8, value: &[u8]) -> Outcome
     ensures { result ≡ activate_dedicated_of t bearer link transaction value.now }
 {

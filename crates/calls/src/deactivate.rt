@@ -7,6 +7,7 @@ use crate::reply::{Outcome, answer_with};
 use table::Table;
 use table::well_formed::well_formed;
 
+#[tactic(auto, using(crate::proofs::Plainly::plain_moves, crate::proofs::Plainly::plain_stands, table::proofs::Typed::table_in_range))]
 pub fn deactivate(t: Table, bearer: u8, transaction: u8) -> Outcome
     ensures { result ≡ deactivate_of t bearer transaction }
 {
@@ -19,6 +20,7 @@ pub fn deactivate(t: Table, bearer: u8, transaction: u8) -> Outcome
     answer_with(stepped(t, d), answer)
 }
 
+#[tactic(auto, using(crate::proofs::Plainly::plain_moves, crate::proofs::Plainly::plain_stands, table::proofs::Typed::table_in_range))]
 pub fn reject(t: Table, transaction: u8, cause: u8) -> Outcome
     ensures { result ≡ reject_of t transaction cause }
 {

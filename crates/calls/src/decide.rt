@@ -20,7 +20,7 @@ use table::bearer::{
 
 // `close`: a transaction that matches is closed. `change`: the named bearer's places are written anew, and what is in conflict goes.
 // `cut`: the connection goes.
-#[derive(Drop)]
+#[derive(Clone, Copy)]
 pub(crate) struct Decision {
     pub(crate) answer: Answer,
     pub(crate) connection: u8,
@@ -41,6 +41,7 @@ fn stop(answer: Answer, close: bool) -> Decision
     }
 }
 
+#[tactic(auto, using(laws::proofs::Index::any_more, laws::proofs::Index::any_start, laws::proofs::Index::done), unfolding(crate::specs::Inner::Decide::opens_seen))]
 pub(crate) fn opens_any(seen: [Seen; BEARERS], x: u8) -> bool
     ensures { result ≡ any_below (opens_seen seen x) bearer_count }
 {
@@ -52,12 +53,14 @@ pub(crate) fn opens_any(seen: [Seen; BEARERS], x: u8) -> bool
     any
 }
 
+#[tactic(auto, unfolding(crate::specs::Inner::Decide::mismatch_seen))]
 fn mismatches(seen: [Seen; BEARERS], x: u8) -> bool
     ensures { result ≡ mismatch_seen seen x }
 {
     !(x == 0) & !((x <= LAST_TRANSACTION) & opens_any(seen, x))
 }
 
+#[tactic(auto, using(table::proofs::Walks::in_eleven), unfolding(crate::specs::Inner::Decide::role_seen))]
 pub(crate) fn role_seen(seen: [Seen; BEARERS], bearer: u8) -> Role
     ensures { result ≡ role_seen seen bearer }
 {
@@ -69,6 +72,7 @@ pub(crate) fn role_seen(seen: [Seen; BEARERS], bearer: u8) -> Role
     }
 }
 
+#[tactic(auto, using(table::proofs::Walks::in_eleven), unfolding(crate::specs::Inner::Decide::empties_seen))]
 fn empties_seen(seen: [Seen; BEARERS], bearer: u8) -> bool
     ensures { result ≡ empties_seen seen bearer }
 {
@@ -98,6 +102,7 @@ fn conflicts(b: Seen, i: usize, connection: u8) -> bool
     in_connection(i, role, connection) & b.loses
 }
 
+#[tactic(auto, using(laws::proofs::Index::any_more, laws::proofs::Index::any_start, laws::proofs::Index::done), unfolding(crate::specs::Inner::Decide::default_conflict, crate::specs::Inner::Decide::released_seen))]
 fn is_released(seen: [Seen; BEARERS], connection: u8) -> bool
     ensures { result ≡ released_seen seen connection }
 {
@@ -110,6 +115,7 @@ fn is_released(seen: [Seen; BEARERS], connection: u8) -> bool
     any
 }
 
+#[tactic(auto, using(laws::proofs::Index::any_more, laws::proofs::Index::any_start, laws::proofs::Index::done), unfolding(crate::specs::Inner::Decide::only_seen, crate::specs::Inner::Decide::other_seen))]
 fn is_only(seen: [Seen; BEARERS], connection: u8) -> bool
     ensures { result ≡ only_seen seen connection }
 {
@@ -132,6 +138,7 @@ fn release(only: bool, connection: u8) -> Answer
     }
 }
 
+#[tactic(auto, unfolding(crate::specs::Inner::Decide::decided_laid))]
 fn decide_laid(seen: [Seen; BEARERS], bearer: u8, connection: u8) -> Decision
     ensures { result ≡ decided_laid seen bearer connection }
 {
@@ -173,6 +180,7 @@ fn decide_by(seen: [Seen; BEARERS], bearer: u8, role: Role, said: element::Answe
     }
 }
 
+#[tactic(auto, unfolding(crate::specs::Inner::Decide::decided_named))]
 fn decide_named(seen: [Seen; BEARERS], bearer: u8, said: element::Answer, value: &[u8]) -> Decision
     ensures { result ≡ decided_named seen said bearer value.now }
 {
@@ -195,6 +203,7 @@ fn decide_named(seen: [Seen; BEARERS], bearer: u8, said: element::Answer, value:
     decide_by(seen, bearer, role, said)
 }
 
+#[tactic(auto, unfolding(crate::specs::Inner::Decide::decided))]
 pub(crate) fn decide(
     seen: [Seen; BEARERS],
     bearer: u8,
@@ -229,6 +238,7 @@ fn decide_created(seen: [Seen; BEARERS], bearer: u8, link: u8, said: element::An
     }
 }
 
+#[tactic(auto, unfolding(crate::specs::Inner::Decide::decided_opened))]
 fn decide_opened(
     seen: [Seen; BEARERS],
     bearer: u8,
@@ -257,6 +267,7 @@ fn decide_opened(
     decide_created(seen, bearer, link, said)
 }
 
+#[tactic(auto, unfolding(crate::specs::Inner::Decide::decided_dedicated))]
 pub(crate) fn decide_dedicated(
     seen: [Seen; BEARERS],
     bearer: u8,
@@ -290,6 +301,7 @@ fn note(s: FollowUps, follows: bool, bearer: u8) -> FollowUps
 }
 
 // Those that lose a filter, where the message changes something.
+#[tactic(auto, using(laws::proofs::Index::done, crate::proofs::Followers::follow_below, crate::proofs::Followers::follow_more, crate::proofs::Followers::follow_room, crate::proofs::Followers::follow_start), unfolding(crate::specs::Inner::Decide::follows_seen))]
 fn followers(seen: [Seen; BEARERS], d: Decision) -> FollowUps
     ensures { result ≡ follow_of (picks (follows_seen seen d) identity_of bearer_count) }
 {
@@ -314,7 +326,7 @@ pub(crate) fn reply_of(seen: [Seen; BEARERS], d: Decision) -> Reply
 }
 
 // What becomes of one bearer.
-#[derive(Drop)]
+#[derive(Clone, Copy)]
 pub(crate) struct Fate {
     pub(crate) cut: bool,
     pub(crate) change: bool,
@@ -328,6 +340,7 @@ fn closed_transaction(close: bool, transaction: u8) -> u8
     if close { 0 } else { transaction }
 }
 
+#[tactic(auto, unfolding(crate::specs::Inner::Decide::fate_of))]
 pub(crate) fn fate_of(b: Seen, i: usize, named: bool, d: Decision, x: u8) -> Fate
     ensures { result ≡ fate_of b i named d x }
 {

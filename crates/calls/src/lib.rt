@@ -1,3 +1,4 @@
+#![tactic(auto)]
 // The six calls on a table of bearers: default and dedicated activation, modify, deactivate, resource modification reject, start.
 pub mod activate;
 pub mod deactivate;

@@ -23,6 +23,7 @@ pub(crate) fn does_create(operation: SetOperation) -> bool
     }
 }
 
+#[tactic(auto, using(crate::proofs::Deciding::decided_home, crate::proofs::Deciding::decided_means, crate::proofs::Applying::listed_there, crate::proofs::Applying::marks_long, crate::proofs::Theorems::modify_malformed, crate::proofs::Applying::see_done, crate::proofs::Applying::see_start, crate::proofs::Applying::seen_role, crate::proofs::Applying::seen_there, crate::proofs::Rows::store_done, crate::proofs::Rows::store_start, crate::proofs::Applying::stored_there, table::proofs::Typed::table_in_range, table::proofs::Meaning::well_says, crate::proofs::Applying::whole))]
 pub fn modify(t: Table, bearer: u8, transaction: u8, value: &[u8]) -> Outcome
     ensures { result ≡ modify_of t bearer transaction value.now }
 {

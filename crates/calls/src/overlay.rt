@@ -31,6 +31,7 @@ fn does_clear(answer: element::Answer) -> bool
 }
 
 // For each place of the named bearer, whether it is written anew: with a new filter, or with nothing.
+#[tactic(auto, using(laws::proofs::Index::stored, laws::proofs::Index::stored_done, laws::proofs::Index::stored_more, laws::proofs::Index::stored_start), unfolding(crate::specs::Inner::Overlay::gone_in))]
 pub(crate) fn gone_by(e: Element) -> [bool; PLACES]
     ensures { result ≡ tab (gone_in e) place_count }
 {
@@ -45,6 +46,7 @@ pub(crate) fn gone_by(e: Element) -> [bool; PLACES]
 }
 
 // For each precedence, whether a new filter has it.
+#[tactic(auto, using(laws::proofs::Index::done, laws::proofs::Typed::each_at, element::proofs::Typed::row_in_range, crate::proofs::Conflicts::taken_below, crate::proofs::Conflicts::taken_done, crate::proofs::Conflicts::taken_more, crate::proofs::Conflicts::taken_start))]
 pub(crate) fn taken_by(new: [Filter; PLACES]) -> [bool; PRECEDENCES]
     ensures { result ≡ tab (takes new) precedence_count }
 {
@@ -66,6 +68,7 @@ pub(crate) fn held_where(asked: bool, f: Filter) -> bool
 }
 
 // The bearer with the transaction that it is to have, and where it is laid on, without the filters that are in conflict and with those that are new.
+#[tactic(auto, using(table::proofs::Typed::bearer_in_range, crate::proofs::Overlays::laid_else, crate::proofs::Overlays::laid_new, crate::proofs::Overlays::lay_done, crate::proofs::Overlays::lay_here, crate::proofs::Overlays::lay_more, crate::proofs::Overlays::lay_skip, crate::proofs::Overlays::lay_start))]
 pub(crate) fn overlaid(
     b: Bearer,
     fate: Fate,

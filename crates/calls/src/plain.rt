@@ -19,7 +19,7 @@ use table::{Bearer, Role, Table};
 
 const INVALID_BEARER: u8 = 43;
 
-#[derive(Drop)]
+#[derive(Clone, Copy)]
 pub(crate) enum Plain {
     Default(u8),
     Deactivate(u8, u8),
@@ -29,7 +29,7 @@ pub(crate) enum Plain {
 
 // What the call comes to. `closes`: whoever has the transaction has none any more. `cuts`: the connection goes. `ends`: the bearer at the index
 // goes. `opens`: it is a default. `starts`: it has the transaction.
-#[derive(Drop)]
+#[derive(Clone, Copy)]
 pub(crate) struct Step {
     pub(crate) answer: Answer,
     index: usize,
@@ -43,6 +43,7 @@ pub(crate) struct Step {
 }
 
 // Role and transaction of each bearer, and nothing of its row.
+#[tactic(auto, using(crate::proofs::Applying::see_done, crate::proofs::Applying::see_more, crate::proofs::Applying::see_start))]
 pub(crate) fn glance(t: Table) -> [Seen; BEARERS]
     ensures { result ≡ tab (glanced t) bearer_count }
 {
@@ -55,6 +56,7 @@ pub(crate) fn glance(t: Table) -> [Seen; BEARERS]
 }
 
 // The transaction is closed, and the bearer with this role goes: "a default takes its connection along".
+#[tactic(auto, unfolding(crate::specs::Inner::Plain::dropping))]
 fn drop_and_close(answer: Answer, transaction: u8, role: Role, bearer: u8) -> Step
     ensures { result ≡ dropping answer transaction role bearer }
 {
@@ -78,6 +80,7 @@ fn stay(answer: Answer) -> Step
     drop_and_close(answer, 0, Role::Idle, 0)
 }
 
+#[tactic(auto, unfolding(crate::specs::Inner::Plain::opening))]
 fn open_default(bearer: u8) -> Step
     ensures { result ≡ opening bearer }
 {
@@ -94,6 +97,7 @@ fn open_default(bearer: u8) -> Step
     }
 }
 
+#[tactic(auto, unfolding(crate::specs::Inner::Plain::starting))]
 fn start_on(transaction: u8, bearer: u8) -> Step
     ensures { result ≡ starting transaction bearer }
 {
@@ -110,6 +114,7 @@ fn start_on(transaction: u8, bearer: u8) -> Step
     }
 }
 
+#[tactic(auto, unfolding(crate::specs::Inner::Plain::open_seen))]
 fn is_open(seen: [Seen; BEARERS], x: u8) -> bool
     ensures { result ≡ open_seen seen x }
 {
@@ -117,6 +122,7 @@ fn is_open(seen: [Seen; BEARERS], x: u8) -> bool
 }
 
 // The bearer that a transaction is open on; 0 where there is none.
+#[tactic(auto, using(laws::proofs::Index::done, laws::proofs::Index::next), unfolding(laws::specs::Index::last_below, crate::specs::Inner::Decide::opens_seen, crate::specs::Inner::Plain::owner_seen))]
 fn owner_of(seen: [Seen; BEARERS], x: u8) -> u8
     ensures { result ≡ owner_seen seen x }
 {
@@ -131,6 +137,7 @@ fn owner_of(seen: [Seen; BEARERS], x: u8) -> u8
 }
 
 // Of an index past the end: 0.
+#[tactic(auto, unfolding(crate::specs::Inner::Plain::transaction_seen))]
 fn transaction_seen(seen: [Seen; BEARERS], i: usize) -> u8
     ensures { result ≡ transaction_seen seen i }
 {
@@ -142,6 +149,7 @@ fn transaction_seen(seen: [Seen; BEARERS], i: usize) -> u8
     }
 }
 
+#[tactic(auto, unfolding(crate::specs::Inner::Plain::decided_default))]
 fn decide_default(seen: [Seen; BEARERS], bearer: u8) -> Step
     ensures { result ≡ decided_default seen bearer }
 {
@@ -152,6 +160,7 @@ fn decide_default(seen: [Seen; BEARERS], bearer: u8) -> Step
     }
 }
 
+#[tactic(auto, unfolding(crate::specs::Inner::Plain::decided_reject))]
 fn decide_reject(seen: [Seen; BEARERS], x: u8, cause: u8) -> Step
     ensures { result ≡ decided_reject seen x cause }
 {
@@ -165,6 +174,7 @@ fn decide_reject(seen: [Seen; BEARERS], x: u8, cause: u8) -> Step
     drop_and_close(Answer::Closed(x), x, Role::Idle, 0)
 }
 
+#[tactic(auto, unfolding(crate::specs::Inner::Plain::decided_start))]
 fn decide_start(seen: [Seen; BEARERS], x: u8, bearer: u8) -> Step
     ensures { result ≡ decided_start seen x bearer }
 {
@@ -207,7 +217,7 @@ pub(crate) fn stands(d: Step) -> bool
 }
 
 // What becomes of one bearer.
-#[derive(Drop)]
+#[derive(Clone, Copy)]
 struct Turn {
     cut: bool,
     change: bool,
@@ -227,6 +237,7 @@ fn next_transaction(starts: bool, closes: bool, x: u8, transaction: u8) -> u8
     }
 }
 
+#[tactic(auto, unfolding(crate::specs::Inner::Plain::turn_of))]
 fn turn_of(d: Step, i: usize, role: Role, transaction: u8) -> Turn
     ensures { result ≡ turn_of d i role transaction }
 {
@@ -259,6 +270,7 @@ fn turned(b: Bearer, turn: Turn) -> Bearer
     }
 }
 
+#[tactic(auto, using(crate::proofs::Plainly::cut_there, crate::proofs::Plainly::left_there, crate::proofs::Plainly::relisted_there, crate::proofs::Rows::store_done, crate::proofs::Rows::store_start, table::proofs::Typed::table_in_range, crate::proofs::Plainly::turned_there, crate::proofs::Plainly::unlisted_there))]
 pub(crate) fn stepped(t: Table, d: Step) -> Table
     ensures { result ≡ stepped_table t d }
 {

@@ -6,7 +6,7 @@ use table::Table;
 use table::bearer::BEARERS;
 
 // 41, 42, 43, 44, 45 and 47 of document 01.
-#[derive(Drop)]
+#[derive(Clone, Copy)]
 pub enum Cause {
     TftSemantics,
     TftSyntax,
@@ -17,7 +17,7 @@ pub enum Cause {
 }
 
 // 1, 3, 4, 5, 6 and 7 of document 01, and 12, 15 and 16 of document 02.
-#[derive(Drop)]
+#[derive(Clone, Copy)]
 pub enum Refusal {
     NotWellFormed,
     NotOpen,
@@ -31,14 +31,14 @@ pub enum Refusal {
 }
 
 // Document 02, 6/14: where the element's value broke, an offset from 0 in it. What is wrong elsewhere has no place.
-#[derive(Drop)]
+#[derive(Clone, Copy)]
 pub enum Place {
     Nowhere,
     At(u8),
 }
 
 // Accept and Reject are sent; of the others no reply is. The place is not sent.
-#[derive(Drop)]
+#[derive(Clone, Copy)]
 pub enum Answer {
     Accept(u8),
     Reject(u8, Cause, Place),
@@ -51,19 +51,19 @@ pub enum Answer {
 }
 
 // Identities in rising order, zero beyond the count.
-#[derive(Drop)]
+#[derive(Clone, Copy)]
 pub struct FollowUps {
     pub count: u8,
     pub bearers: [u8; BEARERS],
 }
 
-#[derive(Drop)]
+#[derive(Clone, Copy)]
 pub struct Reply {
     pub answer: Answer,
     pub follow: FollowUps,
 }
 
-#[derive(Drop)]
+#[derive(Clone, Copy)]
 pub struct Outcome {
     pub table: Table,
     pub reply: Reply,
@@ -132,6 +132,7 @@ pub(crate) fn reject_for(bearer: u8, refusal: element::Refusal) -> Answer
     Answer::Reject(bearer, cause_of(cause), Place::At(refusal.place))
 }
 
+#[tactic(auto, unfolding(laws::specs::Index::pad))]
 pub(crate) fn none_follow() -> FollowUps
     ensures { result ≡ follow_of [] }
 {

@@ -11,7 +11,7 @@ use table::bearer::is_idle;
 use table::{Bearer, Role};
 
 // `loses`: a filter that remains has a new filter's precedence. `empties`: it is the named bearer and holds filters, of which none remains.
-#[derive(Drop)]
+#[derive(Clone, Copy)]
 pub(crate) struct Seen {
     pub(crate) role: Role,
     pub(crate) transaction: u8,
@@ -19,7 +19,7 @@ pub(crate) struct Seen {
     pub(crate) empties: bool,
 }
 
-#[derive(Drop)]
+#[derive(Clone, Copy)]
 struct SeenRow {
     loses: bool,
     empties: bool,
@@ -36,6 +36,7 @@ pub(crate) fn nothing_seen() -> Seen
     }
 }
 
+#[tactic(auto, using(crate::proofs::Overlays::see_done, crate::proofs::Overlays::see_more, crate::proofs::Overlays::see_start))]
 fn see_row(b: Bearer, named: bool, taken: &[bool], gone: &[bool]) -> SeenRow
     requires { (length taken.now ≡ precedence_count) × (length gone.now ≡ place_count) }
     ensures { result ≡ seen_row taken.now gone.now named b.row }
@@ -59,6 +60,7 @@ fn see_row(b: Bearer, named: bool, taken: &[bool], gone: &[bool]) -> SeenRow
     }
 }
 
+#[tactic(auto, using(laws::proofs::Index::any_more, laws::proofs::Index::any_start, laws::proofs::Index::done), unfolding(crate::specs::Inner::Overlay::taken_in))]
 fn any_taken(b: Bearer, taken: &[bool]) -> bool
     requires { length taken.now ≡ precedence_count }
     ensures { result ≡ any_below (taken_in taken.now b.row) place_count }
@@ -73,6 +75,7 @@ fn any_taken(b: Bearer, taken: &[bool]) -> bool
 }
 
 // Most rows are not: a glance at the precedences asks for no copy of the bearer.
+#[tactic(auto, unfolding(crate::specs::Inner::Overlay::touched))]
 pub(crate) fn is_touched(b: Bearer, named: bool, taken: &[bool]) -> bool
     requires { length taken.now ≡ precedence_count }
     ensures { result ≡ touched taken.now named b }
@@ -81,6 +84,7 @@ pub(crate) fn is_touched(b: Bearer, named: bool, taken: &[bool]) -> bool
     !is_idle(role) & (named | any_taken(b, taken))
 }
 
+#[tactic(auto, unfolding(crate::specs::Inner::Overlay::glanced_of))]
 pub(crate) fn glance_at(b: Bearer) -> Seen
     ensures { result ≡ glanced_of b }
 {
@@ -93,6 +97,7 @@ pub(crate) fn glance_at(b: Bearer) -> Seen
     }
 }
 
+#[tactic(auto, unfolding(crate::specs::Inner::Overlay::looked_into))]
 pub(crate) fn see(b: Bearer, named: bool, taken: &[bool], gone: &[bool]) -> Seen
     requires { (length taken.now ≡ precedence_count) × (length gone.now ≡ place_count) }
     ensures { result ≡ looked_into taken.now gone.now named b }

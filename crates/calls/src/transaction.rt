@@ -7,6 +7,7 @@ use crate::reply::{Outcome, answer_with};
 use table::Table;
 use table::well_formed::well_formed;
 
+#[tactic(auto, using(crate::proofs::Plainly::plain_moves, crate::proofs::Plainly::plain_stands, table::proofs::Typed::table_in_range))]
 pub fn start(t: Table, transaction: u8, bearer: u8) -> Outcome
     ensures { result ≡ start_of t transaction bearer }
 {

@@ -79,7 +79,7 @@ module _ (seen : List Seen) where
   decided_by (Filters operation) bearer role = decided_laid bearer (home_of bearer role)
   decided_by Identifiers bearer role =
       pick (is_dedicated role && empties_seen bearer) (stopped (reject bearer TftSemantics) true) (decided_laid bearer (home_of bearer role))
-  decided_by (Bare operation) bearer role = decided_laid bearer (home_of bearer role)
+  decided_by (Bare kind) bearer role = decided_laid bearer (home_of bearer role)
 
   unfoldable pub decided_named : ReadAnswer → ℕ → List ℕ → Decision
   decided_named said bearer value =
