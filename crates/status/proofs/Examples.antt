@@ -1,23 +1,18 @@
 -- Document 02's example of a status and what goes beyond it, as a single claim about the written definitions, computed.
 -- Assumes nothing.
 use mathlib.Core.Path.{◌≡◌, refl}
-use mathlib.Core.Bool.{true}
 use mathlib.Core.List.{List, [], ◌∷◌}
 use Prim.Native.Nat.{ℕ}
 use lib.ListN.{get_or}
 use Rattle.laws.specs.Index.{all_below, tab, pad, joined, walk}
 use Rattle.laws.specs.Lists.{repeats}
-use Rattle.laws.proofs.Says.{says_eq, says_all}
-use Rattle.laws.proofs.Index.{tab_at}
 use Rattle.filter.specs.Build.{empty_filter}
 use Rattle.filter.specs.Coding.{held, empty_place}
 use Rattle.table.specs.declared.bearer.Role.{Role}
 use Rattle.table.specs.declared.bearer.Role.TheVariants.{Idle, Default, Dedicated}
-use Rattle.table.specs.declared.bearer.Bearer.{Bearer}
 use Rattle.table.specs.declared.bearer.Table.{Table}
-use Rattle.table.specs.Lists.{held_count, cell_at, lists_of}
-use Rattle.table.specs.Tables.{table_of, build}
-use Rattle.table.specs.WellFormed.{filter_fine, bearer_fine, transactions_apart, transaction_from, distinct_transactions, row_precedences, connection_precedences, distinct_at, distinct_precedences, bearers_fine, cell_right, lists_right, well_formed}
+use Rattle.table.specs.Tables.{build}
+use Rattle.table.specs.WellFormed.{filter_fine, bearer_fine, transactions_apart, transaction_from, distinct_transactions, row_precedences, connection_precedences, distinct_at, distinct_precedences, bearers_fine, well_formed}
 use Rattle.table.proofs.Meaning.{built_right}
 use Rattle.calls.specs.declared.reply.Answer.TheVariants.{Synchronised}
 use Rattle.calls.specs.Reply.{answered}

@@ -26,6 +26,7 @@ fn stays_by(value: &[u8], identity: u8, role: Role) -> bool
 }
 
 // Where the list of a connection is marked; 0 where no default can have that identity.
+#[tactic(auto, unfolding(crate::specs::Inner::Take::mark_of))]
 fn mark_of(connection: u8) -> usize
     ensures { result ≡ mark_of connection }
 {
@@ -37,6 +38,7 @@ fn mark_of(connection: u8) -> usize
 }
 
 // Only the lists of connections that lose bearers are made anew.
+#[tactic(auto, using(crate::proofs::Taking::gone_there, crate::proofs::Taking::kept_there, crate::proofs::Taking::mark_small, crate::proofs::Taking::stays_still, calls::proofs::Rows::store_done, calls::proofs::Rows::store_start, calls::proofs::Rows::store_still, table::proofs::Typed::table_in_range, crate::proofs::Taking::touch_done, crate::proofs::Taking::touch_more, crate::proofs::Taking::touch_skip, crate::proofs::Taking::touch_start, crate::proofs::Taking::touched_relisted))]
 fn without_unshown(t: Table, value: &[u8]) -> Table
     requires { RightLists t }
     ensures { result ≡ build (cut_view t (gone_by value.now t)) }
@@ -54,6 +56,7 @@ fn without_unshown(t: Table, value: &[u8]) -> Table
     relisted(s, touched)
 }
 
+#[tactic(auto, using(crate::proofs::Taking::synchronise_malformed, crate::proofs::Taking::synchronise_taken, crate::proofs::Taking::synchronise_unfit, table::proofs::Typed::table_in_range, table::proofs::Meaning::well_says))]
 pub fn synchronise(t: Table, value: &[u8]) -> Outcome
     ensures { result ≡ synchronise_of t value.now }
 {

@@ -17,6 +17,7 @@ fn bit_of(identity: u8) -> u8
 }
 
 // Of an identity beyond the value's octets: false.
+#[tactic(auto, using(crate::proofs::Values::unseen_past), unfolding(crate::specs::Value::shown_active))]
 pub fn shown_active(value: &[u8], identity: u8) -> bool
     ensures { result ≡ shown_active value.now identity }
 {
@@ -30,6 +31,7 @@ pub fn shown_active(value: &[u8], identity: u8) -> bool
 }
 
 // An identity beyond the value's octets is not shown.
+#[tactic(auto, using(crate::proofs::Values::unshown_past), unfolding(crate::specs::Value::showing))]
 pub(crate) fn show(value: &mut [u8], identity: u8)
     ensures { value.new ≡ showing value.old identity }
 {

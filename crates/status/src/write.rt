@@ -12,7 +12,7 @@ use table::well_formed::well_formed;
 use table::{Role, Table};
 
 // Number 0, and 1 and 9 of documents 01 and 02.
-#[derive(Drop)]
+#[derive(Clone, Copy)]
 pub enum StatusWritten {
     Wrote,
     NotWellFormed,
@@ -37,6 +37,7 @@ fn show_role(value: &mut [u8], identity: u8, role: Role)
     }
 }
 
+#[tactic(auto, using(laws::proofs::Index::done, crate::proofs::Values::showing_long, laws::proofs::Index::walk_long, laws::proofs::Index::walk_more, laws::proofs::Index::walk_start), unfolding(crate::specs::Write::showing_at))]
 fn show_bearers(value: &mut [u8], t: Table)
     ensures { value.new ≡ walk (showing_at t) value.old bearer_count }
 {
@@ -47,6 +48,7 @@ fn show_bearers(value: &mut [u8], t: Table)
     }
 }
 
+#[tactic(auto, using(crate::proofs::Values::status_long, crate::proofs::Writing::write_fit, crate::proofs::Writing::write_malformed, crate::proofs::Writing::write_short), unfolding(crate::specs::Write::status_of))]
 pub fn write_status(t: Table, buffer: &mut [u8]) -> StatusWritten
     ensures { (result ≡ (write_status_of t buffer.old).written) × (buffer.new ≡ (write_status_of t buffer.old).buffer) }
 {
