@@ -8,8 +8,6 @@ use lib.ListN.{get_or, replicate}
 use Rattle.laws.specs.Index.{all_below, any_below, tab, joined, pad}
 use Rattle.laws.specs.Lists.{is_in, repeats}
 use Rattle.laws.specs.Octets.{be_from}
-use Rattle.laws.proofs.Says.{says_eq, says_all}
-use Rattle.laws.proofs.Index.{tab_at}
 use Rattle.filter.specs.Build.{excluded, added, empty_filter}
 use Rattle.filter.specs.Coding.{held, empty_place}
 use Rattle.element.specs.Head.{head_fine}
@@ -19,11 +17,9 @@ use Rattle.element.specs.Places.{unframed_place, earliest, filters_place, place_
 use Rattle.element.specs.Read.{entries_of, read_value, unplaced, read_element}
 use Rattle.table.specs.declared.bearer.Role.{Role}
 use Rattle.table.specs.declared.bearer.Role.TheVariants.{Idle, Default, Dedicated}
-use Rattle.table.specs.declared.bearer.Bearer.{Bearer}
 use Rattle.table.specs.declared.bearer.Table.{Table}
-use Rattle.table.specs.Lists.{held_count, cell_at, lists_of}
-use Rattle.table.specs.Tables.{table_of, build}
-use Rattle.table.specs.WellFormed.{filter_fine, bearer_fine, transactions_apart, transaction_from, distinct_transactions, row_precedences, connection_precedences, distinct_at, distinct_precedences, bearers_fine, cell_right, lists_right, well_formed}
+use Rattle.table.specs.Tables.{build}
+use Rattle.table.specs.WellFormed.{filter_fine, bearer_fine, transactions_apart, transaction_from, distinct_transactions, row_precedences, connection_precedences, distinct_at, distinct_precedences, bearers_fine, well_formed}
 use Rattle.table.proofs.Meaning.{built_right}
 use Rattle.calls.specs.declared.reply.Cause.{Cause}
 use Rattle.calls.specs.declared.reply.Cause.TheVariants.{TftSyntax, BearerIdentity, FilterSyntax, Transaction}

@@ -28,24 +28,25 @@ const ANSWER_OCTETS: usize = 4;
 const NO_OPERATION: [u8; 1] = [0xC0];
 
 // The octets of what is sent, zero beyond the count; none where nothing is.
-#[derive(Drop)]
+#[derive(Clone, Copy)]
 pub struct AnswerMessage {
     pub count: u8,
     pub octets: [u8; ANSWER_OCTETS],
 }
 
-#[derive(Drop)]
+#[derive(Clone, Copy)]
 pub struct Handled {
     pub outcome: Outcome,
     pub answer: AnswerMessage,
 }
 
-#[derive(Drop)]
+#[derive(Clone, Copy)]
 pub enum Sending {
     Silent,
     Sends(Kind),
 }
 
+#[tactic(auto, unfolding(laws::specs::Lists::is_in))]
 fn is_reply(octet: u8) -> bool
     ensures { result ≡ is_in octet reply_types }
 {
@@ -56,6 +57,7 @@ fn is_reply(octet: u8) -> bool
         | (octet == DEACTIVATE_ACCEPT)
 }
 
+#[tactic(auto, using(crate::proofs::Turns::request_read, crate::proofs::Turns::request_reply, crate::proofs::Turns::request_short))]
 fn read_request(message: &[u8]) -> Parsed
     ensures { result ≡ request_of message.now }
 {
@@ -87,6 +89,7 @@ fn refuse(t: Table, fault: Fault) -> Outcome
 }
 
 // An element without operation changes nothing, after steps 1 to 3.
+#[tactic(auto, using(crate::proofs::Accepting::no_operation_lem))]
 fn accept(t: Table, bearer: u8, transaction: u8) -> Outcome
     ensures { result ≡ accept_of t bearer transaction }
 {
@@ -186,6 +189,7 @@ fn sending_of(kind: Kind, answer: Answer) -> Sending
     }
 }
 
+#[tactic(auto, unfolding(laws::specs::Index::pad))]
 fn nothing_sent() -> AnswerMessage
     ensures { result ≡ message_of [] }
 {
@@ -196,6 +200,7 @@ fn nothing_sent() -> AnswerMessage
 }
 
 // A reply has no TFT, and so at most four octets.
+#[tactic(auto, using(crate::proofs::Turns::front_short, crate::proofs::Turns::reply_is), unfolding(crate::specs::Write::octets_of))]
 fn reply_message(kind: Kind, bearer: u8) -> AnswerMessage
     requires { bearer ≤ largest_identity }
     ensures { result ≡ message_of (octets_of (reply_fields kind bearer)) }
@@ -219,6 +224,7 @@ fn answer_to(kind: Kind, bearer: u8, answer: Answer) -> AnswerMessage
     }
 }
 
+#[tactic(auto, using(crate::proofs::Handling::part_is, crate::proofs::Handling::part_value, crate::proofs::Handling::respond_is))]
 fn respond(t: Table, m: Message, message: &[u8]) -> Handled
     requires { (Inside m.tft message.now) × (m.bearer ≤ largest_identity) }
     ensures { result ≡ handled_by (said_by (Read m) message.now) t }
@@ -234,6 +240,7 @@ fn respond(t: Table, m: Message, message: &[u8]) -> Handled
     Handled { outcome, answer }
 }
 
+#[tactic(auto, using(crate::proofs::Handling::handled_read, crate::proofs::Handling::handled_refused, crate::proofs::Inside::parts, crate::proofs::Handling::request_reads, crate::proofs::Inside::tft_inside))]
 pub fn handle(t: Table, message: &[u8]) -> Handled
     ensures { result ≡ handle_of t message.now }
 {

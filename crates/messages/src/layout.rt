@@ -30,7 +30,7 @@ const MODIFICATION_REJECT: u8 = 0xD7;
 pub(crate) const TFT_IDENTIFIER: u8 = 0x36;
 
 // With the linked identity, or the cause, where it has one.
-#[derive(Drop)]
+#[derive(Clone, Copy)]
 pub enum Kind {
     DedicatedRequest(u8),
     DedicatedAccept,
@@ -44,13 +44,13 @@ pub enum Kind {
 }
 
 // Where the TFT's octets stand in the message: their offset, and how many they are.
-#[derive(Drop)]
+#[derive(Clone, Copy)]
 pub enum Tft {
     Absent,
     At(usize, usize),
 }
 
-#[derive(Drop)]
+#[derive(Clone, Copy)]
 pub struct Message {
     pub kind: Kind,
     pub bearer: u8,
@@ -59,20 +59,20 @@ pub struct Message {
 }
 
 // 15 and 16 of document 02.
-#[derive(Drop)]
+#[derive(Clone, Copy)]
 pub enum Fault {
     Unknown,
     Framing,
 }
 
-#[derive(Drop)]
+#[derive(Clone, Copy)]
 pub enum Parsed {
     Read(Message),
     Refused(Fault),
 }
 
 // What stands between the type and the optional elements: one octet of cause; or one octet with the linked identity, QoS and TFT.
-#[derive(Drop)]
+#[derive(Clone, Copy)]
 pub enum Mandatory {
     Nothing,
     Cause,
@@ -80,7 +80,7 @@ pub enum Mandatory {
 }
 
 // Whether there is a TFT.
-#[derive(Drop)]
+#[derive(Clone, Copy)]
 pub enum Carries {
     Always,
     Maybe,
@@ -88,7 +88,7 @@ pub enum Carries {
 }
 
 // A kind's row, and the linked identity or the cause, 0 where it has neither.
-#[derive(Drop)]
+#[derive(Clone, Copy)]
 pub struct Shape {
     pub octet: u8,
     pub mandatory: Mandatory,
@@ -97,7 +97,7 @@ pub struct Shape {
 }
 
 // What octet 3 names.
-#[derive(Drop)]
+#[derive(Clone, Copy)]
 pub enum Named {
     Known(Kind),
     Other,
@@ -117,6 +117,7 @@ pub fn parsed_number(parsed: Parsed) -> u8
 }
 
 // `first` is the octet after the type: it holds the linked identity, or is the cause.
+#[tactic(auto, unfolding(crate::specs::Layout::kind_of))]
 pub(crate) fn kind_of(octet: u8, first: u8) -> Named
     ensures { result ≡ kind_of octet first }
 {

@@ -1,3 +1,4 @@
+#![tactic(auto)]
 // The plain ESM messages of document 02, 5/14: read, written, and handled on a table.
 pub mod handle;
 pub mod layout;

@@ -6,7 +6,7 @@ use crate::layout::{Kind, TFT_IDENTIFIER};
 
 // Half: identifier and value in one octet. Two: identifier, one octet. Tlv: identifier, length, value. TlvE: the same with two length
 // octets. Template: as Tlv, and it is the TFT.
-#[derive(Drop)]
+#[derive(Clone, Copy)]
 pub enum Form {
     Unlisted,
     Half,
@@ -16,6 +16,7 @@ pub enum Form {
     Template,
 }
 
+#[tactic(auto, unfolding(crate::specs::Layout::form_in))]
 fn dedicated_request_form(identifier: u8) -> Form
     ensures { result ≡ form_in dedicated_request_lists identifier }
 {
@@ -35,6 +36,7 @@ fn dedicated_request_form(identifier: u8) -> Form
     }
 }
 
+#[tactic(auto, unfolding(crate::specs::Layout::form_in))]
 fn modify_request_form(identifier: u8) -> Form
     ensures { result ≡ form_in modify_request_lists identifier }
 {
@@ -58,6 +60,7 @@ fn modify_request_form(identifier: u8) -> Form
 }
 
 // Four of the five replies list the same.
+#[tactic(auto, unfolding(crate::specs::Layout::form_in))]
 fn reply_form(identifier: u8) -> Form
     ensures { result ≡ form_in reply_lists identifier }
 {
@@ -69,6 +72,7 @@ fn reply_form(identifier: u8) -> Form
     }
 }
 
+#[tactic(auto, unfolding(crate::specs::Layout::form_in))]
 fn deactivate_request_form(identifier: u8) -> Form
     ensures { result ≡ form_in deactivate_request_lists identifier }
 {
@@ -84,6 +88,7 @@ fn deactivate_request_form(identifier: u8) -> Form
     }
 }
 
+#[tactic(auto, unfolding(crate::specs::Layout::form_in))]
 fn deactivate_accept_form(identifier: u8) -> Form
     ensures { result ≡ form_in deactivate_accept_lists identifier }
 {
@@ -94,6 +99,7 @@ fn deactivate_accept_form(identifier: u8) -> Form
     }
 }
 
+#[tactic(auto, unfolding(crate::specs::Layout::form_in))]
 fn modification_reject_form(identifier: u8) -> Form
     ensures { result ≡ form_in modification_reject_lists identifier }
 {

@@ -11,21 +11,21 @@ use crate::layout::{
 use crate::listed::{Form, form_of};
 
 // Where the optional elements begin, and the TFT that stands before them.
-#[derive(Drop)]
+#[derive(Clone, Copy)]
 pub enum Start {
     Missing,
     From(usize, Tft),
 }
 
 // What one element leads to: the offset after it, and the TFT as it is found then.
-#[derive(Drop)]
+#[derive(Clone, Copy)]
 pub enum Step {
     Halt,
     Next(usize, Tft),
 }
 
 // What the elements say in all.
-#[derive(Drop)]
+#[derive(Clone, Copy)]
 pub enum Elements {
     Faulty,
     Found(Tft),
@@ -56,6 +56,7 @@ fn is_barred(form: Form, tft: Tft) -> bool
 }
 
 // How many octets of the element at `at` follow its identifier.
+#[tactic(auto, using(crate::proofs::Turns::after_first, crate::proofs::Turns::after_second))]
 fn tail_of(form: Form, s: &[u8], at: usize) -> usize
     requires { at < length s.now }
     ensures { (result ≡ tail_of form (drop (at + 1) s.now)) × (result ≤ 65537) }
@@ -71,6 +72,7 @@ fn tail_of(form: Form, s: &[u8], at: usize) -> usize
 }
 
 // The value of a TFT stands after its identifier and its length.
+#[tactic(auto, using(crate::proofs::Turns::after_first))]
 fn with_element(form: Form, s: &[u8], at: usize, tft: Tft) -> Tft
     requires { at < length s.now }
     ensures { result ≡ with_element form at (drop (at + 1) s.now) tft }
@@ -85,6 +87,7 @@ fn with_element(form: Form, s: &[u8], at: usize, tft: Tft) -> Tft
     }
 }
 
+#[tactic(auto, using(crate::proofs::Turns::step_barred, crate::proofs::Turns::step_cut, crate::proofs::Turns::step_next))]
 fn one_element(kind: Kind, s: &[u8], at: usize, tft: Tft) -> Step
     requires { at < length s.now }
     ensures { result ≡ step_at kind s.now at tft }
@@ -100,6 +103,7 @@ fn one_element(kind: Kind, s: &[u8], at: usize, tft: Tft) -> Step
     Step::Next(at + 1 + tail, with_element(form, s, at, tft))
 }
 
+#[tactic(auto, using(crate::proofs::Turns::element_next, crate::proofs::Turns::elements_end, crate::proofs::Turns::go_on, crate::proofs::Turns::step_inside))]
 fn read_elements(kind: Kind, s: &[u8], from: usize, before: Tft) -> Elements
     requires { from ≤ length s.now }
     ensures { result ≡ elements (optional kind) 0 from before (drop from s.now) }
@@ -134,6 +138,7 @@ fn template_start(s: &[u8], from: usize, octets: usize) -> Start
     Start::From(from + octets, Tft::At(from, octets))
 }
 
+#[tactic(auto, unfolding(crate::specs::Read::activation_start))]
 fn start_of(mandatory: Mandatory, s: &[u8]) -> Start
     ensures { result ≡ start_by mandatory s.now }
 {
@@ -152,6 +157,7 @@ fn start_of(mandatory: Mandatory, s: &[u8]) -> Start
     }
 }
 
+#[tactic(auto, using(crate::proofs::Inside::start_end, crate::proofs::Inside::starts))]
 fn read_known(kind: Kind, s: &[u8]) -> Parsed
     requires { head_octets ≤ length s.now }
     ensures { result ≡ read_from (start_by (row_of kind).mandatory s.now) kind s.now }
@@ -176,6 +182,7 @@ fn read_known(kind: Kind, s: &[u8]) -> Parsed
     }
 }
 
+#[tactic(auto, using(crate::proofs::Turns::read_by, crate::proofs::Turns::read_foreign, crate::proofs::Turns::read_short))]
 pub fn read_message(message: &[u8]) -> Parsed
     ensures { result ≡ read_of message.now }
 {

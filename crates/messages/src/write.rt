@@ -19,7 +19,7 @@ const QOS: u8 = 9;
 const FRONT_OCTETS: usize = 7;
 
 // How many octets were written; 15; 9.
-#[derive(Drop)]
+#[derive(Clone, Copy)]
 pub enum MessageWritten {
     Wrote(usize),
     Unreadable,
@@ -27,7 +27,7 @@ pub enum MessageWritten {
 }
 
 // The octets up to the TFT's value, zero beyond the count.
-#[derive(Drop)]
+#[derive(Clone, Copy)]
 pub struct Front {
     pub count: usize,
     pub octets: [u8; FRONT_OCTETS],
@@ -81,6 +81,7 @@ fn tft_octets(there: bool, tft: &[u8]) -> usize
 }
 
 // The octets before the TFT's value, of which there are `octets`.
+#[tactic(auto, unfolding(laws::specs::Index::pad))]
 pub(crate) fn front_of(shape: Shape, bearer: u8, transaction: u8, there: bool, octets: u8) -> Front
     requires { bearer ≤ largest_identity }
     ensures { result ≡ padded (head_of bearer transaction shape.octet (body_by shape.mandatory shape.carried there octets)) }
@@ -113,6 +114,7 @@ pub(crate) fn front_of(shape: Shape, bearer: u8, transaction: u8, there: bool, o
     }
 }
 
+#[tactic(auto, using(crate::proofs::Turns::put_end, crate::proofs::Turns::put_next))]
 fn put_octets(b: &mut [u8], at: usize, octets: &[u8])
     requires { at + length octets.now ≤ length b.old }
     ensures { b.new ≡ sets b.old at octets.now }
@@ -124,6 +126,7 @@ fn put_octets(b: &mut [u8], at: usize, octets: &[u8])
     }
 }
 
+#[tactic(auto, using(crate::proofs::Putting::bearer_fits, crate::proofs::Putting::front_few, crate::proofs::Turns::front_is, crate::proofs::Putting::octets_long, crate::proofs::Putting::octets_stored, laws::proofs::Parts::pad_long, laws::proofs::Parts::pad_take, crate::proofs::Putting::tft_short, crate::proofs::Putting::tft_taken, crate::proofs::Putting::write_fit, crate::proofs::Putting::write_short, crate::proofs::Putting::write_unreadable), unfolding(crate::specs::Write::writable))]
 pub fn write_message(
     kind: Kind,
     bearer: u8,

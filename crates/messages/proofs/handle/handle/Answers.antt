@@ -1,0 +1,14 @@
+-- `messages::handle::handle` meets its contract: the message's refusal, or the call of its fields.
+use mathlib.Core.Path.{sym, ◌∙◌}
+use native.Mathlib.Omega.{arith}
+use Rattle.messages.proofs.Inside.{parts, tft_inside}
+use Rattle.messages.proofs.Handling.{request_reads}
+use Rattle.messages.proofs.handle.handle.Goals as goal
+
+pub respond-requires : goal.respond-requires
+respond-requires c =
+    let m = c.args.message.now in
+    let read = request_reads m _ (sym c.read_request-request.ensures ∙ c.in-Read.is) in
+    let bearer = (parts m _ read).bearer in
+    let first = (c.type_inv.message 0).fits in
+    (tft_inside m _ read, omega (arith, bearer, first))
