@@ -7,12 +7,12 @@ use mathlib.Core.List.{List, [], ◌∷◌}
 use Prim.Native.Nat.{ℕ, ◌+◌, ◌*◌, ◌/◌, ◌%◌, ◌<◌}
 use native.Mathlib.Omega.{arith}
 use lib.Dec.{eqb, leb}
-use lib.ListN.{length, get_or}
+use lib.ListN.{length}
 use Rattle.laws.specs.Says.{pick}
 use Rattle.laws.specs.Index.{tab}
 use Rattle.laws.specs.Lists.{All, every}
 use Rattle.laws.proofs.Index.{tab_at, tab_same}
-use Rattle.laws.proofs.Says.{says_eq, says_le, says_all}
+use Rattle.laws.proofs.Says.{says_le}
 use Rattle.laws.proofs.Tests.{both}
 use Rattle.filter.specs.declared.packet.Header.{Header}
 use Rattle.filter.specs.Sizes.{precedence_count}
@@ -24,7 +24,7 @@ use Rattle.table.specs.declared.bearer.Table.{Table}
 use Rattle.table.specs.Bearers.{bearer_count, index_of, identity_of, transaction_at, is_idle, is_default, role_of}
 use Rattle.table.specs.Lists.{nothing, entry_at, encoded, decoded, held_count, cell_at, lists_of, held_at, held_list}
 use Rattle.table.specs.Tables.{table_of, build}
-use Rattle.table.specs.WellFormed.{bearers_fine, cell_right, lists_right, well_formed}
+use Rattle.table.specs.WellFormed.{bearers_fine, well_formed}
 use Rattle.table.proofs.Listing.{entry_decoded}
 use Rattle.table.proofs.Meaning.{built_right, range_says, well_says}
 use Rattle.calls.specs.declared.reply.Cause.TheVariants.{BearerIdentity, Transaction}
