@@ -12,7 +12,7 @@ use filter::{Address, Filter};
 // More than the components of the longest line.
 const TURNS: usize = 2048;
 
-#[derive(Drop)]
+#[derive(Clone, Copy)]
 struct Built {
     scan: Scan,
     filter: Filter,

@@ -3,7 +3,7 @@ use crate::scan::Scan;
 use filter::Header;
 
 // `count`, and the number of `Synchronise` and `Message`, is how many octets were read from the line's HEX.
-#[derive(Drop)]
+#[derive(Clone, Copy)]
 pub enum Call {
     Default(u8),
     Dedicated {
@@ -25,7 +25,7 @@ pub enum Call {
 }
 
 // A filter of the line: its place, what it has before its components, and where these stand in the line.
-#[derive(Drop)]
+#[derive(Clone, Copy)]
 pub struct Plan {
     pub place: usize,
     pub(crate) precedence: u8,
@@ -34,7 +34,7 @@ pub struct Plan {
 }
 
 // The role that a bearer is to be given by hand.
-#[derive(Drop)]
+#[derive(Clone, Copy)]
 pub enum RoleWord {
     Idle,
     Default,
@@ -42,7 +42,7 @@ pub enum RoleWord {
 }
 
 // What a position of an identity's held list is to name: the filter at `place` of `bearer`, or nothing where both are 0.
-#[derive(Drop)]
+#[derive(Clone, Copy)]
 pub struct HeldEntry {
     pub identity: u8,
     pub position: u8,
@@ -51,7 +51,7 @@ pub struct HeldEntry {
 }
 
 // What is done to a bearer or to a held list by hand. Identities are as the line has them, any octet.
-#[derive(Drop)]
+#[derive(Clone, Copy)]
 pub enum Hand {
     Force(u8, RoleWord, u8),
     Place(u8, Plan),
@@ -59,7 +59,7 @@ pub enum Hand {
 }
 
 // What is done to the operation that is being composed. A kind is the place of its word.
-#[derive(Drop)]
+#[derive(Clone, Copy)]
 pub enum Part {
     Kind(usize),
     Filter(Plan),
@@ -68,7 +68,7 @@ pub enum Part {
 
 // What is done with the element that arrives split: nothing by most lines; a length announced, so many octets of the line's HEX fed, the
 // finish, or a state by hand, of what was announced, what was fed, and so many octets of the line's HEX.
-#[derive(Drop)]
+#[derive(Clone, Copy)]
 pub enum Feeding {
     Nothing,
     Announce(u16),
@@ -79,7 +79,7 @@ pub enum Feeding {
 
 // A message to be written, into a buffer of `room` octets. Its kind is the place of its word. What it carries is the link or the cause. Where
 // a TFT is there, its octets were read from the line's HEX.
-#[derive(Drop)]
+#[derive(Clone, Copy)]
 pub struct Assembly {
     pub kind: usize,
     pub bearer: u8,
@@ -92,7 +92,7 @@ pub struct Assembly {
 
 // What changes neither the table nor the operation. `Nothing` is an empty line or a comment, and `Bad` a line that is none of the language's.
 // The identity of `List` is as the line has it, any octet.
-#[derive(Drop)]
+#[derive(Clone, Copy)]
 pub enum Question {
     Nothing,
     Bad,
@@ -112,7 +112,7 @@ pub enum Question {
     Assemble(Assembly),
 }
 
-#[derive(Drop)]
+#[derive(Clone, Copy)]
 pub enum Command {
     Call(Call),
     Hand(Hand),
@@ -121,7 +121,7 @@ pub enum Command {
 }
 
 // What a line asks for, and how often.
-#[derive(Drop)]
+#[derive(Clone, Copy)]
 pub struct Asked {
     pub command: Command,
     pub times: u64,

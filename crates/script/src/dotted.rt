@@ -1,6 +1,7 @@
 // IPv4 addresses as people write them, `A.B.C.D`.
 use crate::scan::{NO_NUMBER, Scan, decimal, find, part, scan_from};
 use crate::text::{put, put_number};
+use std::io::Write;
 
 const NUMBERS: usize = 4;
 
@@ -39,14 +40,14 @@ pub(crate) fn dotted(word: &[u8]) -> u64 {
     }
 }
 
-fn put_next(out: &mut [u8], at: usize, octet: u32) -> usize {
-    let o = put(out, at, b'.');
-    put_number(out, o, (octet % 256) as u64)
+fn put_next<W: Write>(out: &mut W, octet: u32) {
+    put(out, b'.');
+    put_number(out, (octet % 256) as u64);
 }
 
-pub(crate) fn put_dotted(out: &mut [u8], at: usize, address: u32) -> usize {
-    let o = put_number(out, at, (address / 16777216) as u64);
-    let o = put_next(out, o, address / 65536);
-    let o = put_next(out, o, address / 256);
-    put_next(out, o, address)
+pub(crate) fn put_dotted<W: Write>(out: &mut W, address: u32) {
+    put_number(out, (address / 16777216) as u64);
+    put_next(out, address / 65536);
+    put_next(out, address / 256);
+    put_next(out, address);
 }

@@ -5,81 +5,81 @@ use crate::text::{put, put_end, put_hex, put_line, put_named, put_named_line, pu
 use element::write::written_number;
 use element::{Element, Written};
 use filter::component::PLACES;
+use std::io::Write;
 
-pub fn put_bad_line(out: &mut [u8], at: usize, line: u64) -> usize {
-    put_named_line(out, at, b"bad line", line)
+pub fn put_bad_line<W: Write>(out: &mut W, line: u64) {
+    put_named_line(out, b"bad line", line);
 }
 
-pub fn put_switch(out: &mut [u8], at: usize, on: bool) -> usize {
+pub fn put_switch<W: Write>(out: &mut W, on: bool) {
     if on {
-        put_line(out, at, b"echo on")
+        put_line(out, b"echo on");
     } else {
-        put_line(out, at, b"echo off")
+        put_line(out, b"echo off");
     }
 }
 
-pub fn put_refused(out: &mut [u8], at: usize, number: u8) -> usize {
-    put_named_line(out, at, b"refused", wide(number))
+pub fn put_refused<W: Write>(out: &mut W, number: u8) {
+    put_named_line(out, b"refused", wide(number));
 }
 
-fn put_mark(out: &mut [u8], at: usize, i: usize, mark: bool) -> usize {
+fn put_mark<W: Write>(out: &mut W, i: usize, mark: bool) {
     if !mark {
-        return at;
+        return;
     }
-    let o = put(out, at, b' ');
-    put_number(out, o, i as u64)
+    put(out, b' ');
+    put_number(out, i as u64);
 }
 
-fn put_marks(out: &mut [u8], at: usize, marks: [bool; PLACES]) -> usize {
-    let mut o = at;
+fn put_marks<W: Write>(out: &mut W, marks: [bool; PLACES]) {
     for i in 0..PLACES {
-        o = put_mark(out, o, i, marks[i]);
+        put_mark(out, i, marks[i]);
     }
-    o
 }
 
-pub(crate) fn put_cause(out: &mut [u8], at: usize, cause: u8) -> usize {
-    put_named_line(out, at, b"cause", wide(cause))
+pub(crate) fn put_cause<W: Write>(out: &mut W, cause: u8) {
+    put_named_line(out, b"cause", wide(cause));
 }
 
 // The reader's refusal: 256 times its cause, and its place.
-pub fn put_refusal(out: &mut [u8], at: usize, refusal: u16) -> usize {
-    let o = put_named(out, at, b"cause", (refusal / 256) as u64);
-    let o = put_named(out, o, b" at", (refusal % 256) as u64);
-    put_end(out, o)
+pub fn put_refusal<W: Write>(out: &mut W, refusal: u16) {
+    put_named(out, b"cause", (refusal / 256) as u64);
+    put_named(out, b" at", (refusal % 256) as u64);
+    put_end(out);
 }
 
 // What the answer does not use is empty, and has no text.
-fn put_operation(out: &mut [u8], at: usize, kind: usize, marks: [bool; PLACES]) -> usize {
-    let o = put_kind(out, at, kind);
-    let o = put_marks(out, o, marks);
-    put_end(out, o)
+fn put_operation<W: Write>(out: &mut W, kind: usize, marks: [bool; PLACES]) {
+    put_kind(out, kind);
+    put_marks(out, marks);
+    put_end(out);
 }
 
-pub fn put_element(out: &mut [u8], at: usize, e: Element) -> usize {
+pub fn put_element<W: Write>(out: &mut W, e: Element) {
     let answer = e.answer;
     let refusal = element::answer::placed_number(answer);
     if refusal != 0 {
-        return put_refusal(out, at, refusal);
+        put_refusal(out, refusal);
+        return;
     }
     let marks = e.marks;
     let filters = e.filters;
-    let o = put_operation(out, at, place_of_kind(answer), marks);
-    let o = put_row(out, o, filters);
-    put_line(out, o, b"end")
+    put_operation(out, place_of_kind(answer), marks);
+    put_row(out, filters);
+    put_line(out, b"end");
 }
 
 // The whole buffer, of which the first `n` octets were written.
-pub fn put_wrote(out: &mut [u8], at: usize, n: usize, buffer: &[u8]) -> usize {
-    let o = put_named(out, at, b"wrote", n as u64);
-    let o = put(out, o, b' ');
-    let o = put_hex(out, o, buffer);
-    put_end(out, o)
+pub fn put_wrote<W: Write>(out: &mut W, n: usize, buffer: &[u8]) {
+    put_named(out, b"wrote", n as u64);
+    put(out, b' ');
+    put_hex(out, buffer);
+    put_end(out);
 }
 
-pub fn put_written(out: &mut [u8], at: usize, written: Written, buffer: &[u8]) -> usize {
+pub fn put_written<W: Write>(out: &mut W, written: Written, buffer: &[u8]) {
     match written {
-        Written::Wrote(n) => put_wrote(out, at, n, buffer),
-        Written::Refused(_) => put_refused(out, at, written_number(written)),
+        Written::Wrote(n) => put_wrote(out, n, buffer),
+        Written::Refused(_) => put_refused(out, written_number(written)),
     }
 }

@@ -1,6 +1,7 @@
 // The words of whole messages; the messages themselves are not known here. A kind is the place of its word.
 use crate::text::{put_named, put_text, wide};
 use crate::words::word_at;
+use std::io::Write;
 
 pub(crate) const MESSAGES: [u8; 180] = *b"\
     dedicated-request   dedicated-accept    dedicated-reject    \
@@ -33,27 +34,20 @@ pub(crate) fn may_carry(kind: usize, carried: u8) -> bool {
     }
 }
 
-fn put_carried(out: &mut [u8], at: usize, kind: usize, carried: u8) -> usize {
+fn put_carried<W: Write>(out: &mut W, kind: usize, carried: u8) {
     match kind {
-        DEDICATED_REQUEST => put_named(out, at, b" link", wide(carried)),
+        DEDICATED_REQUEST => put_named(out, b" link", wide(carried)),
         DEDICATED_REJECT | MODIFY_REJECT | DEACTIVATE_REQUEST | MODIFICATION_REJECT => {
-            put_named(out, at, b" cause", wide(carried))
+            put_named(out, b" cause", wide(carried));
         }
-        _ => at,
+        _ => {}
     }
 }
 
 // All of a message but its TFT.
-pub fn put_message(
-    out: &mut [u8],
-    at: usize,
-    kind: usize,
-    bearer: u8,
-    transaction: u8,
-    carried: u8,
-) -> usize {
-    let o = put_text(out, at, word_at(&MESSAGES, kind));
-    let o = put_named(out, o, b" bearer", wide(bearer));
-    let o = put_named(out, o, b" transaction", wide(transaction));
-    put_carried(out, o, kind, carried)
+pub fn put_message<W: Write>(out: &mut W, kind: usize, bearer: u8, transaction: u8, carried: u8) {
+    put_text(out, word_at(&MESSAGES, kind));
+    put_named(out, b" bearer", wide(bearer));
+    put_named(out, b" transaction", wide(transaction));
+    put_carried(out, kind, carried);
 }

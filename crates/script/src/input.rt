@@ -1,10 +1,10 @@
 // Lines out of the input, whatever the reads cut it into.
 use crate::scan::{find, part};
-use libc::STDIN_FILENO;
+use std::io::Read;
 
 // Of the `count` octets that were last read, those from `from` on are still to be taken. `held` octets of a line are kept; `found` says
 // that they are a whole line, and `ended` that there is nothing more to read.
-#[derive(Drop)]
+#[derive(Clone, Copy)]
 pub(crate) struct Input {
     from: usize,
     count: usize,
@@ -81,10 +81,9 @@ fn take_last(input: Input) -> Input {
     next
 }
 
-// How many octets the next read gave.
-fn read_some(chunk: &mut [u8]) -> usize {
-    let got = libc::read(STDIN_FILENO, chunk);
-    io::count(got, chunk)
+// How many octets the next read gave; none where it failed, which ends the input.
+fn read_some<R: Read>(source: &mut R, chunk: &mut [u8]) -> usize {
+    source.read(chunk).unwrap_or(0)
 }
 
 // Whether the next line is whole in what was read, so that it is found without waiting.
@@ -94,18 +93,18 @@ pub(crate) fn is_line_at_hand(input: Input, chunk: &[u8]) -> bool {
 }
 
 // Reads on where all that was read is taken.
-fn refill(input: Input, chunk: &mut [u8]) -> Input {
+fn refill<R: Read>(source: &mut R, input: Input, chunk: &mut [u8]) -> Input {
     let mut next = input;
     if input.from < input.count {
         return next;
     }
-    next.count = read_some(chunk);
+    next.count = read_some(source, chunk);
     next.from = 0;
     next
 }
 
-fn take_more(input: Input, chunk: &mut [u8], line: &mut [u8]) -> Input {
-    let next = refill(input, chunk);
+fn take_more<R: Read>(source: &mut R, input: Input, chunk: &mut [u8], line: &mut [u8]) -> Input {
+    let next = refill(source, input, chunk);
     let count = next.count;
     if count == 0 {
         return take_last(next);
@@ -115,13 +114,18 @@ fn take_more(input: Input, chunk: &mut [u8], line: &mut [u8]) -> Input {
 
 // The next line, where there is one. A proved loop has to end, and nothing says that a line does: the turns count down from a number that
 // no run uses up.
-pub(crate) fn next_line(input: Input, chunk: &mut [u8], line: &mut [u8]) -> Input {
+pub(crate) fn next_line<R: Read>(
+    source: &mut R,
+    input: Input,
+    chunk: &mut [u8],
+    line: &mut [u8],
+) -> Input {
     let mut next = input;
     next.held = 0;
     next.found = false;
     let mut turns = u64::MAX;
     while turns > 0 && !(next.found | next.ended) {
-        next = take_more(next, chunk, line);
+        next = take_more(source, next, chunk, line);
         turns -= 1;
     }
     next

@@ -2,6 +2,7 @@
 use crate::text::put_text;
 use crate::words::word_at;
 use element::{Answer, BareOperation, SetOperation};
+use std::io::Write;
 
 pub(crate) const KINDS: [u8; 120] = *b"\
     create              add                 replace             delete-filters      \
@@ -53,6 +54,6 @@ pub(crate) fn place_of_kind(answer: Answer) -> usize {
 }
 
 // The word at a place.
-pub fn put_kind(out: &mut [u8], at: usize, place: usize) -> usize {
-    put_text(out, at, word_at(&KINDS, place))
+pub fn put_kind<W: Write>(out: &mut W, place: usize) {
+    put_text(out, word_at(&KINDS, place));
 }

@@ -1,3 +1,4 @@
+#![tactic(auto)]
 // Lines of the bench language taken apart, and its replies put into text; a table is not known here.
 // The functions have no contract: each is proved to end without a fault, and nothing else is claimed.
 mod build;

@@ -116,13 +116,13 @@ pub(crate) const LONGEST_LINE: usize = 2048;
 
 const MOST_TIMES: u64 = 1000000;
 
-#[derive(Drop)]
+#[derive(Clone, Copy)]
 struct Addressed {
     scan: Scan,
     address: Address,
 }
 
-#[derive(Drop)]
+#[derive(Clone, Copy)]
 struct Ends {
     protocol: u8,
     local: u16,
@@ -146,7 +146,7 @@ fn listed(words: &[u8], line: &[u8], s: Scan) -> Scan {
 }
 
 // The last three octets that were read.
-#[derive(Drop)]
+#[derive(Clone, Copy)]
 struct Numbers {
     first: u8,
     second: u8,

@@ -6,13 +6,7 @@ use crate::text::{put_line, put_named_line, wide};
 use element::head::LONGEST;
 use element::portions::{announce, feed, finish, finish_number, portions_number};
 use element::{FinishAnswer, Finished, Portions, PortionsOutcome};
-
-// The state after a line, and the place in the buffer after its reply.
-#[derive(Drop)]
-pub(crate) struct Done {
-    pub(crate) state: Portions,
-    pub(crate) at: usize,
-}
+use std::io::Write;
 
 // The state that the program starts with.
 pub(crate) fn start_portions() -> Portions {
@@ -65,67 +59,67 @@ fn by_hand(announced: u8, fed: u8, octets: &[u8]) -> Portions {
     p
 }
 
-fn put_announced(out: &mut [u8], at: usize, length: u16, number: u8) -> usize {
+fn put_announced<W: Write>(out: &mut W, length: u16, number: u8) {
     if number != 0 {
-        return put_cause(out, at, number);
+        put_cause(out, number);
+        return;
     }
-    put_named_line(out, at, b"announced", length as u64)
+    put_named_line(out, b"announced", length as u64);
 }
 
-fn put_fed(out: &mut [u8], at: usize, fed: u8, number: u8) -> usize {
+fn put_fed<W: Write>(out: &mut W, fed: u8, number: u8) {
     if number != 0 {
-        return put_refused(out, at, number);
+        put_refused(out, number);
+        return;
     }
-    put_named_line(out, at, b"fed", wide(fed))
+    put_named_line(out, b"fed", wide(fed));
 }
 
-fn put_finished(out: &mut [u8], at: usize, finished: Finished) -> usize {
+fn put_finished<W: Write>(out: &mut W, finished: Finished) {
     let answer = finished.answer;
     let element = finished.element;
     match answer {
-        FinishAnswer::Read => put_element(out, at, element),
-        _ => put_refused(out, at, finish_number(finished)),
+        FinishAnswer::Read => put_element(out, element),
+        _ => put_refused(out, finish_number(finished)),
     }
 }
 
-fn announce_line(length: u16, times: u64, out: &mut [u8], at: usize) -> Done {
+fn announce_line<W: Write>(length: u16, times: u64, out: &mut W) -> Portions {
     let outcome = announce_times(length as usize, times);
     let answer = outcome.answer;
-    let at = put_announced(out, at, length, portions_number(answer));
-    let state = outcome.state;
-    Done { state, at }
+    put_announced(out, length, portions_number(answer));
+    outcome.state
 }
 
-fn portion_line(p: Portions, portion: &[u8], times: u64, out: &mut [u8], at: usize) -> Done {
+fn portion_line<W: Write>(p: Portions, portion: &[u8], times: u64, out: &mut W) -> Portions {
     let outcome = feed_times(p, portion, times);
     let answer = outcome.answer;
     let state = outcome.state;
-    let at = put_fed(out, at, state.fed, portions_number(answer));
-    Done { state, at }
+    put_fed(out, state.fed, portions_number(answer));
+    state
 }
 
-fn finish_line(p: Portions, times: u64, out: &mut [u8], at: usize) -> Done {
-    let at = put_finished(out, at, finish_times(p, times));
-    Done { state: p, at }
+fn finish_line<W: Write>(p: Portions, times: u64, out: &mut W) -> Portions {
+    put_finished(out, finish_times(p, times));
+    p
 }
 
-// `octets` begin with those of the line's HEX.
-pub(crate) fn do_feeding(
+// The state after the line. `octets` begin with those of the line's HEX.
+pub(crate) fn do_feeding<W: Write>(
     p: Portions,
     asked: Feeding,
     octets: &[u8],
     times: u64,
-    out: &mut [u8],
-    at: usize,
-) -> Done {
+    out: &mut W,
+) -> Portions {
     match asked {
-        Feeding::Nothing => Done { state: p, at },
-        Feeding::Announce(length) => announce_line(length, times, out, at),
-        Feeding::Portion(count) => portion_line(p, part(octets, 0, count), times, out, at),
-        Feeding::Finish => finish_line(p, times, out, at),
-        Feeding::Force(announced, fed, count) => Done {
-            state: by_hand(announced, fed, part(octets, 0, count)),
-            at: put_line(out, at, b"forced-fed"),
-        },
+        Feeding::Nothing => p,
+        Feeding::Announce(length) => announce_line(length, times, out),
+        Feeding::Portion(count) => portion_line(p, part(octets, 0, count), times, out),
+        Feeding::Finish => finish_line(p, times, out),
+        Feeding::Force(announced, fed, count) => {
+            put_line(out, b"forced-fed");
+            by_hand(announced, fed, part(octets, 0, count))
+        }
     }
 }

@@ -5,23 +5,23 @@ use crate::input::{Input, is_line_at_hand, next_line, start_input};
 use crate::parse::{LONGEST_LINE, parse_line};
 use crate::portions::{do_feeding, start_portions};
 use crate::scan::part;
-use crate::text::{flush, put_line};
+use crate::text::put_line;
 use element::Portions;
 use filter::Filter;
+use std::io::{self, Read, Write};
 
 // What a line is kept in: the longest line with a CR, and one octet more, by which a line that is too long is told.
 pub const LINE_ROOM: usize = 2050;
 
 // What the last line asks for, how often, and with which filter; it was the `lines`-th. An operation is `composing` from the first
-// `compose` on, and the lines to come are echoed where `echoing`. `portions` is the element that arrives split, so far. The reply goes to
-// `at` of the replies' text. Where there is no line more, `ended`, and nothing is asked.
-#[derive(Drop)]
+// `compose` on, and the lines to come are echoed where `echoing`. `portions` is the element that arrives split, so far. Where there is no
+// line more, `ended`, and nothing is asked.
+#[derive(Clone, Copy)]
 pub struct Reader {
     input: Input,
     composing: bool,
     echoing: bool,
     portions: Portions,
-    pub at: usize,
     pub ended: bool,
     pub lines: u64,
     pub command: Command,
@@ -35,7 +35,6 @@ pub fn start_reader(echoing: bool) -> Reader {
         composing: false,
         echoing,
         portions: start_portions(),
-        at: 0,
         ended: false,
         lines: 0,
         command: Command::Ask(Question::Nothing),
@@ -105,14 +104,13 @@ fn parse_with(p: Portions, words: &[u8], line: &[u8], composing: bool, octets: &
 
 // The line that the input holds, as one line more, echoed and taken apart. The octets of its HEX, or those that were fed in place of it, are
 // put into `octets`. A line of portions is done and answered here, since it needs no table.
-fn take_apart(
+fn take_apart<W: Write>(
     reader: Reader,
     input: Input,
     words: &[u8],
     line: &[u8],
     octets: &mut [u8],
-    out: &mut [u8],
-    at: usize,
+    out: &mut W,
 ) -> Reader {
     let before = reader.portions;
     let asked = parse_with(before, words, line, reader.composing, octets);
@@ -121,15 +119,13 @@ fn take_apart(
     let composing = reader.composing | is_compose(command);
     let echoing = echoing_after(command, reader.echoing);
     let lines = counted(reader.lines);
-    let o = put_echo(out, at, reader.echoing, line);
-    let done = do_feeding(before, feeding_in(command), octets, asked.times, out, o);
-    let portions = done.state;
+    put_echo(out, reader.echoing, line);
+    let portions = do_feeding(before, feeding_in(command), octets, asked.times, out);
     Reader {
         input,
         composing,
         echoing,
         portions,
-        at: done.at,
         ended: false,
         lines,
         command,
@@ -138,14 +134,13 @@ fn take_apart(
     }
 }
 
-fn at_end(reader: Reader, input: Input, at: usize) -> Reader {
+fn at_end(reader: Reader, input: Input) -> Reader {
     let portions = reader.portions;
     Reader {
         input,
         composing: reader.composing,
         echoing: reader.echoing,
         portions,
-        at,
         ended: true,
         lines: reader.lines,
         command: Command::Ask(Question::Nothing),
@@ -155,45 +150,36 @@ fn at_end(reader: Reader, input: Input, at: usize) -> Reader {
 }
 
 // Replies are written out before a line is waited for.
-fn flush_before_wait(out: &[u8], at: usize, input: Input, chunk: &[u8]) -> usize {
+fn flush_before_wait<W: Write>(out: &mut W, input: Input, chunk: &[u8]) -> io::Result<()> {
     if is_line_at_hand(input, chunk) {
-        return at;
+        return Ok(());
     }
-    flush(out, at);
-    0
+    out.flush()
 }
 
 // The line as it came, without its CR, where it is not too long.
-fn put_echo(out: &mut [u8], at: usize, echoing: bool, line: &[u8]) -> usize {
+fn put_echo<W: Write>(out: &mut W, echoing: bool, line: &[u8]) {
     if echoing & (line.len() <= LONGEST_LINE) {
-        return put_line(out, at, line);
+        put_line(out, line);
     }
-    at
 }
 
-// The next line, read, echoed and taken apart. `words` are those that a line begins with, and `at` is where `out` has come to.
-pub fn read_line(
+// The next line, read, echoed and taken apart. `words` are those that a line begins with. It fails where the replies so far cannot be
+// written out.
+pub fn read_line<R: Read, W: Write>(
+    source: &mut R,
     reader: Reader,
     words: &[u8],
     chunk: &mut [u8],
     line: &mut [u8],
     octets: &mut [u8],
-    out: &mut [u8],
-    at: usize,
-) -> Reader {
+    out: &mut W,
+) -> io::Result<Reader> {
     let before = reader.input;
-    let o = flush_before_wait(out, at, before, chunk);
-    let input = next_line(before, chunk, line);
+    flush_before_wait(out, before, chunk)?;
+    let input = next_line(source, before, chunk, line);
     if !input.found {
-        return at_end(reader, input, o);
+        return Ok(at_end(reader, input));
     }
-    take_apart(
-        reader,
-        input,
-        words,
-        part(line, 0, input.held),
-        octets,
-        out,
-        o,
-    )
+    Ok(take_apart(reader, input, words, part(line, 0, input.held), octets, out))
 }

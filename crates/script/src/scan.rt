@@ -12,7 +12,7 @@ const MOST_HEX: usize = 1024;
 pub const MOST_OCTETS: usize = 512;
 
 // Where reading has come to in a line, whether all was of the language so far, and what the last word was read as.
-#[derive(Drop)]
+#[derive(Clone, Copy)]
 pub struct Scan {
     pub(crate) at: usize,
     pub(crate) ok: bool,

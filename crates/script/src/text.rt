@@ -1,62 +1,39 @@
-// The replies' text, into a buffer that is written out whenever it is full.
-use crate::scan::part;
-use libc::STDOUT_FILENO;
+// The replies' text, put into a buffered writer. A write that fails here is told of by the next flush: the writer still holds what it could
+// not write.
+use std::io::Write;
 
-// Every function here hands back the place in the buffer after what it put.
-pub fn put(out: &mut [u8], at: usize, octet: u8) -> usize {
-    if at < out.len() {
-        out[at] = octet;
-        return at + 1;
-    }
-    io::write_all(STDOUT_FILENO, out);
-    if out.len() == 0 {
-        return 0;
-    }
-    out[0] = octet;
-    1
+pub fn put<W: Write>(out: &mut W, octet: u8) {
+    let _ = out.write_all(&[octet]);
 }
 
-// Writes out what is held.
-pub(crate) fn flush(out: &[u8], at: usize) {
-    io::write_all(STDOUT_FILENO, part(out, 0, at));
+pub fn put_text<W: Write>(out: &mut W, text: &[u8]) {
+    let _ = out.write_all(text);
 }
 
-pub fn put_text(out: &mut [u8], at: usize, text: &[u8]) -> usize {
-    let mut o = at;
-    let mut i = 0;
-    while i < text.len() {
-        o = put(out, o, text[i]);
-        i += 1;
-    }
-    o
-}
-
-pub fn put_number(out: &mut [u8], at: usize, n: u64) -> usize {
-    let mut digits = [0u8; 20];
-    let k = io::decimal(n, &mut digits);
-    put_text(out, at, &digits[..k])
+pub fn put_number<W: Write>(out: &mut W, n: u64) {
+    let _ = write!(out, "{n}");
 }
 
 // A word, a space, and a number.
-pub fn put_named(out: &mut [u8], at: usize, name: &[u8], n: u64) -> usize {
-    let o = put_text(out, at, name);
-    let o = put(out, o, b' ');
-    put_number(out, o, n)
+pub fn put_named<W: Write>(out: &mut W, name: &[u8], n: u64) {
+    put_text(out, name);
+    put(out, b' ');
+    put_number(out, n);
 }
 
-pub fn put_end(out: &mut [u8], at: usize) -> usize {
-    put(out, at, b'\n')
+pub fn put_end<W: Write>(out: &mut W) {
+    put(out, b'\n');
 }
 
-pub fn put_line(out: &mut [u8], at: usize, text: &[u8]) -> usize {
-    let o = put_text(out, at, text);
-    put_end(out, o)
+pub fn put_line<W: Write>(out: &mut W, text: &[u8]) {
+    put_text(out, text);
+    put_end(out);
 }
 
 // A line of a word and a number.
-pub fn put_named_line(out: &mut [u8], at: usize, name: &[u8], n: u64) -> usize {
-    let o = put_named(out, at, name, n);
-    put_end(out, o)
+pub fn put_named_line<W: Write>(out: &mut W, name: &[u8], n: u64) {
+    put_named(out, name, n);
+    put_end(out);
 }
 
 // The digit of n's lowest four bits, in capitals.
@@ -66,42 +43,41 @@ fn hex_digit(n: u64) -> u8 {
 }
 
 // n's lowest 8 bits in two digits.
-pub(crate) fn put_hex_8(out: &mut [u8], at: usize, n: u64) -> usize {
-    let o = put(out, at, hex_digit(n / 16));
-    put(out, o, hex_digit(n))
+pub(crate) fn put_hex_8<W: Write>(out: &mut W, n: u64) {
+    put(out, hex_digit(n / 16));
+    put(out, hex_digit(n));
 }
 
-fn put_hex_16(out: &mut [u8], at: usize, n: u64) -> usize {
-    let o = put_hex_8(out, at, n / 256);
-    put_hex_8(out, o, n)
+fn put_hex_16<W: Write>(out: &mut W, n: u64) {
+    put_hex_8(out, n / 256);
+    put_hex_8(out, n);
 }
 
-fn put_hex_32(out: &mut [u8], at: usize, n: u64) -> usize {
-    let o = put_hex_16(out, at, n / 65536);
-    put_hex_16(out, o, n)
+fn put_hex_32<W: Write>(out: &mut W, n: u64) {
+    put_hex_16(out, n / 65536);
+    put_hex_16(out, n);
 }
 
-pub(crate) fn put_hex_64(out: &mut [u8], at: usize, n: u64) -> usize {
-    let o = put_hex_32(out, at, n / 4294967296);
-    put_hex_32(out, o, n)
+pub(crate) fn put_hex_64<W: Write>(out: &mut W, n: u64) {
+    put_hex_32(out, n / 4294967296);
+    put_hex_32(out, n);
 }
 
-fn put_octets(out: &mut [u8], at: usize, octets: &[u8]) -> usize {
-    let mut o = at;
+fn put_octets<W: Write>(out: &mut W, octets: &[u8]) {
     let mut i = 0;
     while i < octets.len() {
-        o = put_hex_8(out, o, wide(octets[i]));
+        put_hex_8(out, wide(octets[i]));
         i += 1;
     }
-    o
 }
 
 // HEX: `-` for no octets.
-pub fn put_hex(out: &mut [u8], at: usize, octets: &[u8]) -> usize {
+pub fn put_hex<W: Write>(out: &mut W, octets: &[u8]) {
     if octets.len() == 0 {
-        return put(out, at, b'-');
+        put(out, b'-');
+        return;
     }
-    put_octets(out, at, octets)
+    put_octets(out, octets);
 }
 
 pub fn wide(x: u8) -> u64 {
