@@ -10,6 +10,7 @@ use script::command::{Call, Command, Hand, HeldEntry, Question, RoleWord};
 use script::reader::Reader;
 use script::scan::part;
 use script::text::{put, put_end, put_line, put_named, put_named_line, put_number, wide};
+use std::io::Write;
 use table::bearer::{BEARERS, index_of, is_identity};
 use table::list::table_of;
 use table::{Bearer, Role, Table};
@@ -116,18 +117,18 @@ pub(crate) fn by_hand(t: Table, asked: Hand, f: Filter) -> Table {
     }
 }
 
-fn put_placed(out: &mut [u8], at: usize, identity: u8, place: usize) -> usize {
-    let o = put_named(out, at, b"placed", wide(identity));
-    let o = put(out, o, b' ');
-    let o = put_number(out, o, place as u64);
-    put_end(out, o)
+fn put_placed<W: Write>(out: &mut W, identity: u8, place: usize) {
+    put_named(out, b"placed", wide(identity));
+    put(out, b' ');
+    put_number(out, place as u64);
+    put_end(out);
 }
 
-pub(crate) fn put_by_hand(out: &mut [u8], at: usize, asked: Hand) -> usize {
+pub(crate) fn put_by_hand<W: Write>(out: &mut W, asked: Hand) {
     match asked {
-        Hand::Force(identity, _, _) => put_named_line(out, at, b"forced", wide(identity)),
-        Hand::Place(identity, plan) => put_placed(out, at, identity, plan.place),
-        Hand::Entry(_) => put_line(out, at, b"forced-entry"),
+        Hand::Force(identity, _, _) => put_named_line(out, b"forced", wide(identity)),
+        Hand::Place(identity, plan) => put_placed(out, identity, plan.place),
+        Hand::Entry(_) => put_line(out, b"forced-entry"),
     }
 }
 

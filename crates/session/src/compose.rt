@@ -6,6 +6,7 @@ use script::command::Part;
 use script::filters::put_filter;
 use script::kinds::{kind_at, put_kind};
 use script::text::{put_end, put_named_line, put_text};
+use std::io::Write;
 
 pub(crate) fn empty_operation(answer: element::Answer) -> Element {
     Element {
@@ -31,10 +32,10 @@ fn with_mark(e: Element, place: usize) -> Element {
     next
 }
 
-fn put_composing(out: &mut [u8], at: usize, kind: usize) -> usize {
-    let o = put_text(out, at, b"composing ");
-    let o = put_kind(out, o, kind);
-    put_end(out, o)
+fn put_composing<W: Write>(out: &mut W, kind: usize) {
+    put_text(out, b"composing ");
+    put_kind(out, kind);
+    put_end(out);
 }
 
 // `f` is the filter of the line.
@@ -46,10 +47,10 @@ pub(crate) fn composed(e: Element, asked: Part, f: Filter) -> Element {
     }
 }
 
-pub(crate) fn put_composed(out: &mut [u8], at: usize, asked: Part, f: Filter) -> usize {
+pub(crate) fn put_composed<W: Write>(out: &mut W, asked: Part, f: Filter) {
     match asked {
-        Part::Kind(kind) => put_composing(out, at, kind),
-        Part::Filter(plan) => put_filter(out, at, plan.place, f),
-        Part::Identifier(place) => put_named_line(out, at, b"identifier", place as u64),
+        Part::Kind(kind) => put_composing(out, kind),
+        Part::Filter(plan) => put_filter(out, plan.place, f),
+        Part::Identifier(place) => put_named_line(out, b"identifier", place as u64),
     }
 }

@@ -10,6 +10,7 @@ use script::esm::{
 };
 use script::scan::{copy, part, size};
 use script::text::{put_end, put_hex, put_text, wide};
+use std::io::Write;
 
 // The octets of an answer, behind their count.
 pub(crate) const SENT_ROOM: usize = 5;
@@ -54,48 +55,42 @@ fn carried_by(kind: Kind) -> u8 {
     }
 }
 
-fn put_tft(out: &mut [u8], at: usize, tft: Tft, message: &[u8]) -> usize {
+fn put_tft<W: Write>(out: &mut W, tft: Tft, message: &[u8]) {
     match tft {
-        Tft::Absent => at,
+        Tft::Absent => {}
         Tft::At(from, count) => {
-            let o = put_text(out, at, b" tft ");
-            put_hex(out, o, part(part(message, from, message.len()), 0, count))
+            put_text(out, b" tft ");
+            put_hex(out, part(part(message, from, message.len()), 0, count));
         }
     }
 }
 
-fn put_read(out: &mut [u8], at: usize, m: Message, message: &[u8]) -> usize {
+fn put_read<W: Write>(out: &mut W, m: Message, message: &[u8]) {
     let kind = m.kind;
     let tft = m.tft;
-    let o = put_message(
+    put_message(
         out,
-        at,
         place_of(kind),
         m.bearer,
         m.transaction,
         carried_by(kind),
     );
-    let o = put_tft(out, o, tft, message);
-    put_end(out, o)
+    put_tft(out, tft, message);
+    put_end(out);
 }
 
 // `parsed` is what `message` was read as.
-pub(crate) fn put_parsed(out: &mut [u8], at: usize, parsed: Parsed, message: &[u8]) -> usize {
+pub(crate) fn put_parsed<W: Write>(out: &mut W, parsed: Parsed, message: &[u8]) {
     match parsed {
-        Parsed::Read(m) => put_read(out, at, m, message),
-        Parsed::Refused(_) => put_refused(out, at, parsed_number(parsed)),
+        Parsed::Read(m) => put_read(out, m, message),
+        Parsed::Refused(_) => put_refused(out, parsed_number(parsed)),
     }
 }
 
-pub(crate) fn put_assembled(
-    out: &mut [u8],
-    at: usize,
-    written: MessageWritten,
-    buffer: &[u8],
-) -> usize {
+pub(crate) fn put_assembled<W: Write>(out: &mut W, written: MessageWritten, buffer: &[u8]) {
     match written {
-        MessageWritten::Wrote(n) => put_wrote(out, at, n, buffer),
-        _ => put_refused(out, at, message_number(written)),
+        MessageWritten::Wrote(n) => put_wrote(out, n, buffer),
+        _ => put_refused(out, message_number(written)),
     }
 }
 
@@ -106,23 +101,23 @@ pub(crate) fn keep_answer(answer: AnswerMessage, sent: &mut [u8]) {
     copy(&kept, sent);
 }
 
-fn put_send(out: &mut [u8], at: usize, sent: &[u8]) -> usize {
+fn put_send<W: Write>(out: &mut W, sent: &[u8]) {
     if sent.len() == 0 {
-        return at;
+        return;
     }
     let count = size(wide(sent[0]));
     if count == 0 {
-        return at;
+        return;
     }
-    let o = put_text(out, at, b"send ");
-    let o = put_hex(out, o, part(part(sent, 1, sent.len()), 0, count));
-    put_end(out, o)
+    put_text(out, b"send ");
+    put_hex(out, part(part(sent, 1, sent.len()), 0, count));
+    put_end(out);
 }
 
 // Only a message is answered by one. `sent` is as the last message left it.
-pub(crate) fn put_sent(out: &mut [u8], at: usize, call: Call, sent: &[u8]) -> usize {
+pub(crate) fn put_sent<W: Write>(out: &mut W, call: Call, sent: &[u8]) {
     match call {
-        Call::Message(_) => put_send(out, at, sent),
-        _ => at,
+        Call::Message(_) => put_send(out, sent),
+        _ => {}
     }
 }

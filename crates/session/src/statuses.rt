@@ -6,11 +6,12 @@ use script::text::{put_end, put_text};
 use status::StatusWritten;
 use status::value::{STATUS_OCTETS, shown_active};
 use status::write::status_number;
+use std::io::Write;
 use table::Table;
 use table::bearer::{BEARERS, FIRST_IDENTITY, is_idle};
 
 // Which bearers are active. Of two tables only this is kept to be compared, since a table more would be on the program's stack at every line.
-#[derive(Drop)]
+#[derive(Clone, Copy)]
 pub(crate) struct Actives {
     at: [bool; BEARERS],
 }
@@ -58,62 +59,50 @@ pub(crate) fn gone_between(before: Actives, after: Actives) -> FollowUps {
 }
 
 // The identities that the one value shows active where `here`, and the other where `there`.
-fn put_shown(
-    out: &mut [u8],
-    at: usize,
-    ours: &[u8],
-    theirs: &[u8],
-    here: bool,
-    there: bool,
-) -> usize {
-    let mut o = at;
+fn put_shown<W: Write>(out: &mut W, ours: &[u8], theirs: &[u8], here: bool, there: bool) {
     for i in 0..BEARERS {
         let identity = i as u8 + FIRST_IDENTITY;
         let wanted = (shown_active(ours, identity) == here)
             & (shown_active(theirs, identity) == there);
-        o = put_next(out, o, wanted, identity);
+        put_next(out, wanted, identity);
     }
-    o
 }
 
-fn put_comparison(out: &mut [u8], at: usize, ours: &[u8], theirs: &[u8]) -> usize {
-    let o = put_text(out, at, b"both");
-    let o = put_shown(out, o, ours, theirs, true, true);
-    let o = put_text(out, o, b" here");
-    let o = put_shown(out, o, ours, theirs, true, false);
-    let o = put_text(out, o, b" network");
-    let o = put_shown(out, o, ours, theirs, false, true);
-    put_end(out, o)
+fn put_comparison<W: Write>(out: &mut W, ours: &[u8], theirs: &[u8]) {
+    put_text(out, b"both");
+    put_shown(out, ours, theirs, true, true);
+    put_text(out, b" here");
+    put_shown(out, ours, theirs, true, false);
+    put_text(out, b" network");
+    put_shown(out, ours, theirs, false, true);
+    put_end(out);
 }
 
-pub(crate) fn put_status(
-    out: &mut [u8],
-    at: usize,
-    written: StatusWritten,
-    buffer: &[u8],
-) -> usize {
+pub(crate) fn put_status<W: Write>(out: &mut W, written: StatusWritten, buffer: &[u8]) {
     let number = status_number(written);
     if number != 0 {
-        return put_refused(out, at, number);
+        put_refused(out, number);
+        return;
     }
-    put_wrote(out, at, STATUS_OCTETS, buffer)
+    put_wrote(out, STATUS_OCTETS, buffer);
 }
 
 // `written` is what came of writing `ours`. The numbers are those of `synchronise`: 1, then 12.
-pub(crate) fn put_compared(
-    out: &mut [u8],
-    at: usize,
+pub(crate) fn put_compared<W: Write>(
+    out: &mut W,
     written: StatusWritten,
     ours: &[u8],
     theirs: &[u8],
-) -> usize {
+) {
     let number = status_number(written);
     if number != 0 {
-        return put_refused(out, at, number);
+        put_refused(out, number);
+        return;
     }
     if theirs.len() != STATUS_OCTETS {
         let refused = calls::Answer::Refused(Refusal::StatusLength);
-        return put_refused(out, at, calls::reply::number(refused));
+        put_refused(out, calls::reply::number(refused));
+        return;
     }
-    put_comparison(out, at, ours, theirs)
+    put_comparison(out, ours, theirs);
 }
