@@ -1,4 +1,4 @@
-/* What the session part offers to the stack's C side. Link target/staticlib/libelement.a (`rt staticlib element`), which is x86-64 code. */
+/* What the session part offers to the stack's C side. Link target/staticlib/libelement.a (`host/archive` makes it), which is x86-64 code. */
 #ifndef TROSPEL_H
 #define TROSPEL_H
 
