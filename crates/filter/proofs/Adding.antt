@@ -1,19 +1,9 @@
--- One addition, by what the tests say of it.
+-- What an addition leaves as it was.
 use mathlib.Core.Path.{◌≡◌, refl}
-use mathlib.Core.Bool.{Bool, true, false, ◌||◌}
+use mathlib.Core.Bool.{◌||◌}
 use Rattle.laws.proofs.Says.{picked}
 use Rattle.filter.specs.declared.component.Filter.{Filter}
 use Rattle.filter.specs.Build.{Component, ipv4_remote, ipv6_remote, protocol, local_port, local_range, remote_port, remote_range, index, class, label, type_of, put, excluded, too_large, added}
-
--- a component that is refused leaves the filter as it was
-pub kept : (f : Filter) (c : Component) (b : Bool) → b ≡ too_large c || excluded f (type_of c) → b ≡ true → f ≡ added f c
-unfolding added
-kept f c b e t = rw (← e, t)
-
--- one that is not is put in its place
-pub placed : (f : Filter) (c : Component) (b : Bool) → b ≡ too_large c || excluded f (type_of c) → b ≡ false → put c f ≡ added f c
-unfolding added
-placed f c b e t = rw (← e, t)
 
 -- ---- an addition changes neither the precedence nor the direction
 pub record SameStart (f g : Filter) : Type 0 where

@@ -1,4 +1,5 @@
 -- An empty place is the bare filter with precedence and direction 0, and no other.
+use Rattle.std.specs.Prelude.{None, Option, Some}
 use mathlib.Core.Path.{◌≡◌, refl, ◌∙◌, ap}
 use mathlib.Core.Bool.{true, false, not, ◌&&◌, false≢true}
 use Prim.Native.Nat.{ℕ}
@@ -8,16 +9,9 @@ use Rattle.laws.specs.Says.{Says}
 use Rattle.laws.proofs.Tests.{both, neither}
 use Rattle.filter.specs.declared.component.RemoteAddress.{RemoteAddress}
 use Rattle.filter.specs.declared.component.RemoteAddress.TheVariants.{Absent as no_address, V4, V6}
-use Rattle.filter.specs.declared.component.Protocol.{Protocol}
-use Rattle.filter.specs.declared.component.Protocol.TheVariants.{Absent as no_protocol, Is as is_protocol}
 use Rattle.filter.specs.declared.component.Port.{Port}
 use Rattle.filter.specs.declared.component.Port.TheVariants.{Absent as no_port, Is as is_port, Range}
-use Rattle.filter.specs.declared.component.Index.{Index}
-use Rattle.filter.specs.declared.component.Index.TheVariants.{Absent as no_index, Is as is_index}
 use Rattle.filter.specs.declared.component.Class.{Class}
-use Rattle.filter.specs.declared.component.Class.TheVariants.{Absent as no_class, Masked}
-use Rattle.filter.specs.declared.component.Label.{Label}
-use Rattle.filter.specs.declared.component.Label.TheVariants.{Absent as no_label, Is as is_label}
 use Rattle.filter.specs.declared.component.Filter.{Filter}
 use Rattle.filter.specs.Component.{local_port_type, local_range_type, remote_port_type, remote_range_type, type_of_address, type_of_protocol}
 use Rattle.filter.specs.Component.{type_of_port, type_of_index, type_of_class, type_of_label, present}
@@ -29,9 +23,9 @@ no_address_lem no_address e = refl
 no_address_lem (V4 a mask) e = absurd (false≢true (cc))
 no_address_lem (V6 a mask) e = absurd (false≢true (cc))
 
-no_protocol_lem : (p : Protocol) → present (type_of_protocol p) ≡ false → p ≡ no_protocol
-no_protocol_lem no_protocol e = refl
-no_protocol_lem (is_protocol x) e = absurd (false≢true (cc))
+no_protocol_lem : (p : Option ℕ) → present (type_of_protocol p) ≡ false → p ≡ None
+no_protocol_lem None e = refl
+no_protocol_lem (Some x) e = absurd (false≢true (cc))
 
 -- one and range are the port's types
 no_port_lem : (one range : ℕ) → present one ≡ true → present range ≡ true → (p : Port) → present (type_of_port one range p) ≡ false → p ≡ no_port
@@ -39,17 +33,17 @@ no_port_lem one range o r no_port e = refl
 no_port_lem one range o r (is_port x) e = absurd (false≢true (cc))
 no_port_lem one range o r (Range low high) e = absurd (false≢true (cc))
 
-no_index_lem : (i : Index) → present (type_of_index i) ≡ false → i ≡ no_index
-no_index_lem no_index e = refl
-no_index_lem (is_index x) e = absurd (false≢true (cc))
+no_index_lem : (i : Option ℕ) → present (type_of_index i) ≡ false → i ≡ None
+no_index_lem None e = refl
+no_index_lem (Some x) e = absurd (false≢true (cc))
 
-no_class_lem : (c : Class) → present (type_of_class c) ≡ false → c ≡ no_class
-no_class_lem no_class e = refl
-no_class_lem (Masked x mask) e = absurd (false≢true (cc))
+no_class_lem : (c : Option Class) → present (type_of_class c) ≡ false → c ≡ None
+no_class_lem None e = refl
+no_class_lem (Some m) e = absurd (false≢true (cc))
 
-no_label_lem : (l : Label) → present (type_of_label l) ≡ false → l ≡ no_label
-no_label_lem no_label e = refl
-no_label_lem (is_label x) e = absurd (false≢true (cc))
+no_label_lem : (l : Option ℕ) → present (type_of_label l) ≡ false → l ≡ None
+no_label_lem None e = refl
+no_label_lem (Some x) e = absurd (false≢true (cc))
 
 -- a filter that is not held is bare
 pub unheld_bare : (f : Filter) → held f ≡ false → f ≡ bare f.precedence f.direction

@@ -1,4 +1,5 @@
 -- A filter's types are those of the components that it holds; types of one family are the same, or exclude each other.
+use Rattle.std.specs.Prelude.{None, Option, Some}
 use mathlib.Core.Path.{◌≡◌, refl, sym, ◌∙◌, ap}
 use mathlib.Core.Bool.{Bool, true, false}
 use mathlib.Core.Logic.{◌⊎◌, inl, inr}
@@ -6,21 +7,14 @@ use Prim.Native.Nat.{ℕ}
 use native.Mathlib.Omega.{arith}
 use lib.Dec.{eqb}
 use borrow.Author.Tests.{eqb-true}
-use Rattle.laws.specs.Lists.{Some}
+use Rattle.laws.specs.Lists.{Some as OneOf}
 use Rattle.laws.specs.Says.{pick, Says}
 use Rattle.laws.proofs.Says.{says_and, says_not, says_eq, says_some}
 use Rattle.filter.specs.declared.component.RemoteAddress.{RemoteAddress}
 use Rattle.filter.specs.declared.component.RemoteAddress.TheVariants.{Absent as no_address, V4, V6}
-use Rattle.filter.specs.declared.component.Protocol.{Protocol}
-use Rattle.filter.specs.declared.component.Protocol.TheVariants.{Absent as no_protocol, Is as is_protocol}
 use Rattle.filter.specs.declared.component.Port.{Port}
 use Rattle.filter.specs.declared.component.Port.TheVariants.{Absent as no_port, Is as is_port, Range}
-use Rattle.filter.specs.declared.component.Index.{Index}
-use Rattle.filter.specs.declared.component.Index.TheVariants.{Absent as no_index, Is as is_index}
 use Rattle.filter.specs.declared.component.Class.{Class}
-use Rattle.filter.specs.declared.component.Class.TheVariants.{Absent as no_class, Masked}
-use Rattle.filter.specs.declared.component.Label.{Label}
-use Rattle.filter.specs.declared.component.Label.TheVariants.{Absent as no_label, Is as is_label}
 use Rattle.filter.specs.declared.component.Filter.{Filter}
 use Rattle.filter.specs.Component.{ipv4_remote_type, ipv6_remote_type, local_port_type, local_range_type, remote_port_type, remote_range_type, type_of_address, type_of_protocol, type_of_local}
 use Rattle.filter.specs.Component.{type_of_remote, type_of_index, type_of_class, type_of_label, types_of, present, family, excludes}
@@ -38,9 +32,9 @@ module _ (f : Filter) where
   address_held (V4 a mask) e n = record { component = ipv4_remote a mask; of_type = refl; stands = ap (λ x. with_address x f) (sym e) }
   address_held (V6 a mask) e n = record { component = ipv6_remote a mask; of_type = refl; stands = ap (λ x. with_address x f) (sym e) }
 
-  protocol_held : (p : Protocol) → f.protocol ≡ p → IfPresent (type_of_protocol p) (Holds f)
-  protocol_held no_protocol e n = absurd (n refl)
-  protocol_held (is_protocol x) e n = record { component = protocol x; of_type = refl; stands = ap (λ y. with_protocol y f) (sym e) }
+  protocol_held : (p : Option ℕ) → f.protocol ≡ p → IfPresent (type_of_protocol p) (Holds f)
+  protocol_held None e n = absurd (n refl)
+  protocol_held (Some x) e n = record { component = protocol x; of_type = refl; stands = ap (λ y. with_protocol y f) (sym e) }
 
   local_held : (p : Port) → f.local ≡ p → IfPresent (type_of_local p) (Holds f)
   local_held no_port e n = absurd (n refl)
@@ -52,17 +46,17 @@ module _ (f : Filter) where
   remote_held (is_port x) e n = record { component = remote_port x; of_type = refl; stands = ap (λ y. with_remote y f) (sym e) }
   remote_held (Range low high) e n = record { component = remote_range low high; of_type = refl; stands = ap (λ y. with_remote y f) (sym e) }
 
-  index_held : (i : Index) → f.index ≡ i → IfPresent (type_of_index i) (Holds f)
-  index_held no_index e n = absurd (n refl)
-  index_held (is_index x) e n = record { component = index x; of_type = refl; stands = ap (λ y. with_index y f) (sym e) }
+  index_held : (i : Option ℕ) → f.index ≡ i → IfPresent (type_of_index i) (Holds f)
+  index_held None e n = absurd (n refl)
+  index_held (Some x) e n = record { component = index x; of_type = refl; stands = ap (λ y. with_index y f) (sym e) }
 
-  class_held : (c : Class) → f.class ≡ c → IfPresent (type_of_class c) (Holds f)
-  class_held no_class e n = absurd (n refl)
-  class_held (Masked x mask) e n = record { component = class x mask; of_type = refl; stands = ap (λ y. with_class y f) (sym e) }
+  class_held : (c : Option Class) → f.class ≡ c → IfPresent (type_of_class c) (Holds f)
+  class_held None e n = absurd (n refl)
+  class_held (Some m) e n = record { component = class m.class m.mask; of_type = refl; stands = ap (λ y. with_class y f) (sym e) }
 
-  label_held : (l : Label) → f.label ≡ l → IfPresent (type_of_label l) (Holds f)
-  label_held no_label e n = absurd (n refl)
-  label_held (is_label x) e n = record { component = label x; of_type = refl; stands = ap (λ y. with_label y f) (sym e) }
+  label_held : (l : Option ℕ) → f.label ≡ l → IfPresent (type_of_label l) (Holds f)
+  label_held None e n = absurd (n refl)
+  label_held (Some x) e n = record { component = label x; of_type = refl; stands = ap (λ y. with_label y f) (sym e) }
 
 -- ---- A type that excludes t, and is held
 abbrev Excludes : ℕ → ℕ → Type 0
@@ -77,7 +71,7 @@ module _ (f : Filter) (t : ℕ) where
   of : (u : ℕ) → IfPresent u (Holds f) → Excludes t u → HeldInFamily f t
   of u held h = record { other = u; held = held h.0; same = h.1 }
 
-  one_held : Some (Excludes t) (types_of f) → HeldInFamily f t
+  one_held : OneOf (Excludes t) (types_of f) → HeldInFamily f t
   one_held (inl h) = of _ (address_held f f.address refl) h
   one_held (inr (inl h)) = of _ (protocol_held f f.protocol refl) h
   one_held (inr (inr (inl h))) = of _ (local_held f f.local refl) h
@@ -88,7 +82,7 @@ module _ (f : Filter) (t : ℕ) where
   one_held (inr (inr (inr (inr (inr (inr (inr x7))))))) = elim x7 [ ]
 
 -- a component's type is among those of the filter that it is put in
-type_there : (P : ℕ → Type 0) (c : Component) (f : Filter) → (present (type_of c) ≡ true → P (type_of c)) → Some P (types_of (put c f))
+type_there : (P : ℕ → Type 0) (c : Component) (f : Filter) → (present (type_of c) ≡ true → P (type_of c)) → OneOf P (types_of (put c f))
 type_there P (ipv4_remote a mask) f h = inl (h refl)
 type_there P (ipv6_remote a mask) f h = inl (h refl)
 type_there P (protocol x) f h = inr (inl (h refl))

@@ -1,4 +1,5 @@
 -- Two answers to which protocols carry ports, a and b, and what a filter fits by the one and by the other. Nothing here depends on which protocols those are.
+use Rattle.std.specs.Prelude.{None, Option, Some}
 use mathlib.Core.Path.{◌≡◌, refl, sym, ◌∙◌}
 use mathlib.Core.Bool.{Bool, true, false, ◌||◌}
 use mathlib.Core.Logic.{◌⊎◌, inl, inr, ⊎_elim}
@@ -7,12 +8,8 @@ use lib.Dec.{eqb}
 use borrow.Author.Tests.{eqb-true}
 use Rattle.laws.proofs.Says.{which, never}
 use Rattle.laws.proofs.Tests.{both, neither}
-use Rattle.filter.specs.declared.component.Protocol.{Protocol}
-use Rattle.filter.specs.declared.component.Protocol.TheVariants.{Absent as no_protocol, Is as is_protocol}
 use Rattle.filter.specs.declared.component.Port.{Port}
 use Rattle.filter.specs.declared.component.Port.TheVariants.{Absent as no_port, Is as is_port, Range}
-use Rattle.filter.specs.declared.component.Index.{Index}
-use Rattle.filter.specs.declared.component.Index.TheVariants.{Absent as no_index, Is as is_index}
 use Rattle.filter.specs.declared.component.Filter.{Filter}
 use Rattle.filter.specs.declared.packet.Header.{Header}
 use Rattle.filter.specs.Fit.{valid_header, carries_index, agrees_address, agrees_protocol, agrees_port_by, agrees_index, agrees_class, agrees_label, agrees_network, fits_by}
@@ -27,9 +24,9 @@ port_same a b no_port p q port e = refl
 port_same a b (is_port x) p q port e = rw e
 port_same a b (Range low high) p q port e = rw e
 
-index_same : (c : Index) (p q index : ℕ) → carries_index p ≡ carries_index q → agrees_index c p index ≡ agrees_index c q index
-index_same no_index p q index e = refl
-index_same (is_index x) p q index e = rw e
+index_same : (c : Option ℕ) (p q index : ℕ) → carries_index p ≡ carries_index q → agrees_index c p index ≡ agrees_index c q index
+index_same None p q index e = refl
+index_same (Some x) p q index e = rw e
 
 port_absent : (a : ℕ → Bool) (c : Port) (p port : ℕ) → a p ≡ false → agrees_port_by a c p port ≡ true → c ≡ no_port
 port_absent a no_port p port n e = refl
@@ -72,7 +69,7 @@ fits_all a f h g = rw (g.protocol, g.local, g.remote, g.index, g.address, g.clas
 -- ---- a filter by two answers
 -- by a, naming c, it fits a packet of protocol p exactly where by b, naming d, it fits the same packet of protocol q: where c agrees with p as d does with q, and
 -- ports and index count for p as they do for q
-pub fits_alike : (a b : ℕ → Bool) (f : Filter) (c d : Protocol) (h : Header) (p q : ℕ) → agrees_protocol c p ≡ agrees_protocol d q → a p ≡ b q
+pub fits_alike : (a b : ℕ → Bool) (f : Filter) (c d : Option ℕ) (h : Header) (p q : ℕ) → agrees_protocol c p ≡ agrees_protocol d q → a p ≡ b q
     → carries_index p ≡ carries_index q → fits_by a (naming c f) (of_protocol p h) ≡ fits_by b (naming d f) (of_protocol q h)
 unfolding agrees_network
 fits_alike a b f c d h p q t e i =
@@ -97,7 +94,7 @@ pub fits_carries : (a : ℕ → Bool) (f : Filter) (h : Header) → (NoPort f �
 fits_carries a f h port e = ⊎_elim (λ t. t) (λ n. absurd (port (fits_portless a f h n e))) (which (a h.protocol))
 
 -- one with a protocol fits packets of that protocol alone
-pub fits_named : (a : ℕ → Bool) (f : Filter) (h : Header) (x : ℕ) → f.protocol ≡ is_protocol x → fits_by a f h ≡ true → x ≡ h.protocol
+pub fits_named : (a : ℕ → Bool) (f : Filter) (h : Header) (x : ℕ) → f.protocol ≡ Some x → fits_by a f h ≡ true → x ≡ h.protocol
 fits_named a f h x q e = eqb-true x h.protocol (rw q at (agree a f h e).protocol)
 
 -- whether a filter has a port
@@ -147,16 +144,16 @@ module _ (a b : ℕ → Bool) (more : (p : ℕ) → a p ≡ true → b p ≡ tru
   pub fits_no_more : (f : Filter) → SomePacketFitsBy (fits_by a) f → (PortNoProtocol f → ⊥) → (h : Header) → fits_by b f h ≡ fits_by a f h
   fits_no_more f s other h = by (has_port f)
     where
-      fixed : (x : ℕ) → f.protocol ≡ is_protocol x → a x ≡ true → fits_by b f h ≡ fits_by a f h
+      fixed : (x : ℕ) → f.protocol ≡ Some x → a x ≡ true → fits_by b f h ≡ fits_by a f h
       fixed x q t = go (which (eqb x h.protocol))
         where
           go : (eqb x h.protocol ≡ true) ⊎ (eqb x h.protocol ≡ false) → fits_by b f h ≡ fits_by a f h
           go (inl e) = let p = eqb-true x h.protocol e in fits_same b a f h (rw (← p) (more x t ∙ sym t))
           go (inr n) = rw (q, n)
 
-      chosen : (NoPort f → ⊥) → (c : Protocol) → f.protocol ≡ c → fits_by b f h ≡ fits_by a f h
-      chosen port no_protocol q = absurd (other (record { port = port; protocol = q }))
-      chosen port (is_protocol x) q = fixed x q (rw (fits_named a f s.header x q s.agrees) (fits_carries a f s.header port s.agrees))
+      chosen : (NoPort f → ⊥) → (c : Option ℕ) → f.protocol ≡ c → fits_by b f h ≡ fits_by a f h
+      chosen port None q = absurd (other (record { port = port; protocol = q }))
+      chosen port (Some x) q = fixed x q (rw (fits_named a f s.header x q s.agrees) (fits_carries a f s.header port s.agrees))
 
       by : NoPort f ⊎ (NoPort f → ⊥) → fits_by b f h ≡ fits_by a f h
       by (inl n) = portless_same b a f h n

@@ -1,5 +1,6 @@
 -- What the code asks of a filter: where any packet fits, the answers are yes, and where they are, the packet that the filter describes fits;
 -- component by component.
+use Rattle.std.specs.Prelude.{None, Option, Some}
 use mathlib.Core.Path.{◌≡◌, refl, sym, ◌∙◌}
 use mathlib.Core.Bool.{Bool, true, false, ◌||◌, false≢true}
 use mathlib.Core.Logic.{⊎_elim}
@@ -16,16 +17,9 @@ use Rattle.laws.proofs.Masks.{same_self}
 use Rattle.filter.specs.declared.component.Address.{Address}
 use Rattle.filter.specs.declared.component.RemoteAddress.{RemoteAddress}
 use Rattle.filter.specs.declared.component.RemoteAddress.TheVariants.{Absent as no_address, V4, V6}
-use Rattle.filter.specs.declared.component.Protocol.{Protocol}
-use Rattle.filter.specs.declared.component.Protocol.TheVariants.{Absent as no_protocol, Is as is_protocol}
 use Rattle.filter.specs.declared.component.Port.{Port}
 use Rattle.filter.specs.declared.component.Port.TheVariants.{Absent as no_port, Is as is_port, Range}
-use Rattle.filter.specs.declared.component.Index.{Index}
-use Rattle.filter.specs.declared.component.Index.TheVariants.{Absent as no_index, Is as is_index}
 use Rattle.filter.specs.declared.component.Class.{Class}
-use Rattle.filter.specs.declared.component.Class.TheVariants.{Absent as no_class, Masked}
-use Rattle.filter.specs.declared.component.Label.{Label}
-use Rattle.filter.specs.declared.component.Label.TheVariants.{Absent as no_label, Is as is_label}
 use Rattle.filter.specs.Component.{type_of_local, type_of_remote, type_of_index, present}
 use Rattle.filter.specs.Coding.{label_fits}
 use Rattle.filter.specs.Fit.{valid_at, carries_ports, carries_index, agrees_address, agrees_protocol, agrees_port, agrees_index, agrees_class, agrees_label}
@@ -37,24 +31,24 @@ same : (x : ℕ) → eqb x x ≡ true
 same x = eq-eqb x x refl
 
 -- a label that agrees with a valid header is not too large
-pub label_fits_lem : (l : Label) (version label : ℕ) → agrees_label l version label ≡ true → valid_at version label ≡ true → label_fits l ≡ true
-label_fits_lem no_label version label e v = refl
-label_fits_lem (is_label x) version label e v =
+pub label_fits_lem : (l : Option ℕ) (version label : ℕ) → agrees_label l version label ≡ true → valid_at version label ≡ true → label_fits l ≡ true
+label_fits_lem None version label e v = refl
+label_fits_lem (Some x) version label e v =
     let h = both (eqb version 6) (eqb x label) e in
     rw (eqb-true version 6 h.0, ← eqb-true x label h.1) at v
 
-pub version_asked : (a : RemoteAddress) (l : Label) (version : ℕ) (address : Address) (label : ℕ) → agrees_address a version address ≡ true
+pub version_asked : (a : RemoteAddress) (l : Option ℕ) (version : ℕ) (address : Address) (label : ℕ) → agrees_address a version address ≡ true
     → agrees_label l version label ≡ true → valid_at version label ≡ true → some_version a l ≡ true
-version_asked a no_label version address label e g v = refl
-version_asked no_address (is_label x) version address label e g v = label_fits_lem (is_label x) version label g v
-version_asked (V4 a mask) (is_label x) version address label e g v =
+version_asked a None version address label e g v = refl
+version_asked no_address (Some x) version address label e g v = label_fits_lem (Some x) version label g v
+version_asked (V4 a mask) (Some x) version address label e g v =
     let four = eqb-true version 4 (both (eqb version 4) _ e).0 in
     let six = eqb-true version 6 (both (eqb version 6) (eqb x label) g).0 in
     let no : ⊥ = omega arith in
     absurd no
-version_asked (V6 a mask) (is_label x) version address label e g v = label_fits_lem (is_label x) version label g v
+version_asked (V6 a mask) (Some x) version address label e g v = label_fits_lem (Some x) version label g v
 
-pub record VersionRight (a : RemoteAddress) (l : Label) (v : ℕ) : Type 0 where
+pub record VersionRight (a : RemoteAddress) (l : Option ℕ) (v : ℕ) : Type 0 where
   pub address : agrees_address a v (sample_address a) ≡ true
   pub label : agrees_label l v (sample_label l) ≡ true
   pub valid : valid_at v (sample_label l) ≡ true
@@ -67,13 +61,13 @@ own4 a mask =
 own6 : (a mask : Address) → agrees_address (V6 a mask) 6 (sample_address (V6 a mask)) ≡ true
 own6 a mask = rw (same_self 64 mask.high a.high, same_self 64 mask.low a.low)
 
-pub version_right : (a : RemoteAddress) (l : Label) → some_version a l ≡ true → VersionRight a l (sample_version a l)
-version_right no_address no_label e = record { address = refl; label = refl; valid = refl }
-version_right no_address (is_label x) e = record { address = refl; label = same x; valid = e }
-version_right (V4 a mask) no_label e = record { address = own4 a mask; label = refl; valid = refl }
-version_right (V4 a mask) (is_label x) e = absurd (false≢true e)
-version_right (V6 a mask) no_label e = record { address = own6 a mask; label = refl; valid = refl }
-version_right (V6 a mask) (is_label x) e = record { address = own6 a mask; label = same x; valid = e }
+pub version_right : (a : RemoteAddress) (l : Option ℕ) → some_version a l ≡ true → VersionRight a l (sample_version a l)
+version_right no_address None e = record { address = refl; label = refl; valid = refl }
+version_right no_address (Some x) e = record { address = refl; label = same x; valid = e }
+version_right (V4 a mask) None e = record { address = own4 a mask; label = refl; valid = refl }
+version_right (V4 a mask) (Some x) e = absurd (false≢true e)
+version_right (V6 a mask) None e = record { address = own6 a mask; label = refl; valid = refl }
+version_right (V6 a mask) (Some x) e = record { address = own6 a mask; label = same x; valid = e }
 
 -- ---- the protocol: what the ports and the index ask of one, they have of that of the sample
 -- no protocol carries ports and an index
@@ -86,26 +80,26 @@ apart x p i = ⊎_elim (λ e. other x 50 refl (eqb-true x 50 e) p) (λ e. other 
 wants : (a b : Bool) → Says (imp a b) (a ≡ true → b ≡ true)
 wants a b = says_if (says_it a) (says_it b)
 
-pub protocol_asked : (p : Protocol) (ports index : Bool) (x : ℕ) → agrees_protocol p x ≡ true → (ports ≡ true → carries_ports x ≡ true)
+pub protocol_asked : (p : Option ℕ) (ports index : Bool) (x : ℕ) → agrees_protocol p x ≡ true → (ports ≡ true → carries_ports x ≡ true)
     → (index ≡ true → carries_index x ≡ true) → some_protocol p ports index ≡ true
-protocol_asked (is_protocol y) ports index x e p i = rw (eqb-true y x e, (wants ports (carries_ports x)).from p, (wants index (carries_index x)).from i)
-protocol_asked no_protocol true true x e p i = absurd (apart x (p refl) (i refl))
-protocol_asked no_protocol true false x e p i = refl
-protocol_asked no_protocol false index x e p i = refl
+protocol_asked (Some y) ports index x e p i = rw (eqb-true y x e, (wants ports (carries_ports x)).from p, (wants index (carries_index x)).from i)
+protocol_asked None true true x e p i = absurd (apart x (p refl) (i refl))
+protocol_asked None true false x e p i = refl
+protocol_asked None false index x e p i = refl
 
-pub record ProtocolRight (p : Protocol) (wants_ports wants_index : Bool) (s : ℕ) : Type 0 where
+pub record ProtocolRight (p : Option ℕ) (wants_ports wants_index : Bool) (s : ℕ) : Type 0 where
   pub protocol : agrees_protocol p s ≡ true
   pub ports : wants_ports ≡ true → carries_ports s ≡ true
   pub index : wants_index ≡ true → carries_index s ≡ true
 
-pub protocol_right : (p : Protocol) (ports index : Bool) → some_protocol p ports index ≡ true → ProtocolRight p ports index (sample_protocol p ports index)
-protocol_right (is_protocol x) ports index e =
+pub protocol_right : (p : Option ℕ) (ports index : Bool) → some_protocol p ports index ≡ true → ProtocolRight p ports index (sample_protocol p ports index)
+protocol_right (Some x) ports index e =
     let h = both (imp ports (carries_ports x)) (imp index (carries_index x)) e in
     record { protocol = same x; ports = (wants ports (carries_ports x)).to h.0; index = (wants index (carries_index x)).to h.1 }
-protocol_right no_protocol true true e = absurd (false≢true e)
-protocol_right no_protocol true false e = record { protocol = refl; ports = λ _. refl; index = λ t. absurd (false≢true t) }
-protocol_right no_protocol false true e = record { protocol = refl; ports = λ t. absurd (false≢true t); index = λ _. refl }
-protocol_right no_protocol false false e = record { protocol = refl; ports = λ t. absurd (false≢true t); index = λ t. absurd (false≢true t) }
+protocol_right None true true e = absurd (false≢true e)
+protocol_right None true false e = record { protocol = refl; ports = λ _. refl; index = λ t. absurd (false≢true t) }
+protocol_right None false true e = record { protocol = refl; ports = λ t. absurd (false≢true t); index = λ _. refl }
+protocol_right None false false e = record { protocol = refl; ports = λ t. absurd (false≢true t); index = λ t. absurd (false≢true t) }
 
 -- ---- the ports, the index and the class
 -- the definition asks whether the ports have a type
@@ -133,14 +127,14 @@ port_right no_port s o w = refl
 port_right (is_port x) s o w = rw (w refl) (same x)
 port_right (Range low high) s o w = rw (w refl, le-leb low low (omega arith)) o
 
-pub index_wants : (c : Index) (protocol index : ℕ) → agrees_index c protocol index ≡ true → present (type_of_index c) ≡ true → carries_index protocol ≡ true
-index_wants no_index protocol index e t = absurd (false≢true t)
-index_wants (is_index x) protocol index e t = (both (carries_index protocol) (eqb x index) e).0
+pub index_wants : (c : Option ℕ) (protocol index : ℕ) → agrees_index c protocol index ≡ true → present (type_of_index c) ≡ true → carries_index protocol ≡ true
+index_wants None protocol index e t = absurd (false≢true t)
+index_wants (Some x) protocol index e t = (both (carries_index protocol) (eqb x index) e).0
 
-pub index_right : (c : Index) (s : ℕ) → (present (type_of_index c) ≡ true → carries_index s ≡ true) → agrees_index c s (sample_index c) ≡ true
-index_right no_index s w = refl
-index_right (is_index x) s w = rw (w refl) (same x)
+pub index_right : (c : Option ℕ) (s : ℕ) → (present (type_of_index c) ≡ true → carries_index s ≡ true) → agrees_index c s (sample_index c) ≡ true
+index_right None s w = refl
+index_right (Some x) s w = rw (w refl) (same x)
 
-pub class_right : (c : Class) → agrees_class c (sample_class c) ≡ true
-class_right no_class = refl
-class_right (Masked x mask) = same_self 8 mask x
+pub class_right : (c : Option Class) → agrees_class c (sample_class c) ≡ true
+class_right None = refl
+class_right (Some m) = same_self 8 m.mask m.class

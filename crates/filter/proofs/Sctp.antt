@@ -1,4 +1,5 @@
--- Fit before and after document 02's 4/14: "132 carries both ports as well."
+-- Fit before and after the request that "132 carries both ports as well."
+use Rattle.std.specs.Prelude.{None, Option, Some}
 use mathlib.Core.Path.{◌≡◌, refl, sym, ◌∙◌, ap}
 use mathlib.Core.Bool.{true, false}
 use mathlib.Core.Logic.{◌⊎◌, inl, inr, ⊎_elim, ◌↔◌}
@@ -8,8 +9,6 @@ use lib.Dec.{eqb}
 use borrow.Author.Tests.{eqb-true, eq-eqb}
 use Rattle.laws.proofs.Says.{which, never, says_no, says_ne, says_eq, says_it}
 use Rattle.laws.proofs.Tests.{either, or_right, or_false}
-use Rattle.filter.specs.declared.component.Protocol.{Protocol}
-use Rattle.filter.specs.declared.component.Protocol.TheVariants.{Absent as no_protocol, Is as is_protocol}
 use Rattle.filter.specs.declared.component.Filter.{Filter}
 use Rattle.filter.specs.declared.packet.Header.{Header}
 use Rattle.filter.specs.Component.{type_of_address, present}
@@ -30,22 +29,22 @@ carried p e = ⊎_elim (known p tcp refl) (known p udp refl) (either (eqb p tcp)
 no_index_lem : (p : ℕ) → carries_ports p ≡ true → carries_index p ≡ false
 no_index_lem p t = says_no (says_it (carries_index p)) (apart p t)
 
-any_protocol : (f : Filter) (p q : ℕ) → f.protocol ≡ no_protocol → agrees_protocol f.protocol p ≡ agrees_protocol f.protocol q
+any_protocol : (f : Filter) (p q : ℕ) → f.protocol ≡ None → agrees_protocol f.protocol p ≡ agrees_protocol f.protocol q
 any_protocol f p q e = rw e
 
 -- ---- SCTP is as TCP or UDP was
-like : (f : Filter) (c d : Protocol) (h : Header) (p : ℕ) → agrees_protocol c sctp ≡ agrees_protocol d p → tcp_or_udp p ≡ true
+like : (f : Filter) (c d : Option ℕ) (h : Header) (p : ℕ) → agrees_protocol c sctp ≡ agrees_protocol d p → tcp_or_udp p ≡ true
     → fits (naming c f) (of_protocol sctp h) ≡ fits_before (naming d f) (of_protocol p h)
 unfolding fits
 like f c d h p same t = fits_alike carries_ports tcp_or_udp f c d h sctp p same (sym t) (sym (no_index_lem p (carried p t)))
 
 -- a filter that names SCTP fits an SCTP packet exactly where it fitted, naming TCP or UDP, the same packet of that protocol
 pub sctp_named : (f : Filter) (h : Header) (p : ℕ) → tcp_or_udp p ≡ true
-    → fits (naming (is_protocol sctp) f) (of_protocol sctp h) ≡ fits_before (naming (is_protocol p) f) (of_protocol p h)
-sctp_named f h p t = like f (is_protocol sctp) (is_protocol p) h p (sym (eq-eqb p p refl)) t
+    → fits (naming (Some sctp) f) (of_protocol sctp h) ≡ fits_before (naming (Some p) f) (of_protocol p h)
+sctp_named f h p t = like f (Some sctp) (Some p) h p (sym (eq-eqb p p refl)) t
 
 -- a filter without a protocol fits one exactly where it fitted the same packet of TCP or UDP
-pub sctp_alike : (f : Filter) → f.protocol ≡ no_protocol → (h : Header) (p : ℕ) → tcp_or_udp p ≡ true → fits f (of_protocol sctp h) ≡ fits_before f (of_protocol p h)
+pub sctp_alike : (f : Filter) → f.protocol ≡ None → (h : Header) (p : ℕ) → tcp_or_udp p ≡ true → fits f (of_protocol sctp h) ≡ fits_before f (of_protocol p h)
 sctp_alike f none h p t = like f f.protocol f.protocol h p (any_protocol f sctp p none) t
 
 -- ---- "Held filters with a port and no protocol now fit SCTP packets too"
@@ -90,7 +89,7 @@ portless_packets f h none =
     ⊎_elim (λ e. portless_same carries_ports tcp_or_udp f h (none e)) (λ n. n ∙ sym (says_no (says_it (fits_before f h)) (λ e. never (fits_still f h e) n))) (which (fits f h))
 
 -- ---- a filter that names a protocol is held
-pub named_held : (f : Filter) (x : ℕ) → f.protocol ≡ is_protocol x → held f ≡ true
+pub named_held : (f : Filter) (x : ℕ) → f.protocol ≡ Some x → held f ≡ true
 unfolding held
 named_held f x q = rw q (or_right (present (type_of_address f.address)) _ refl)
 
@@ -104,14 +103,14 @@ sctp_unfitted f a s = never s.agrees (port_before f a.port s.header (sym (fits_n
 
 module _ (f : Filter) where
   abbrev as_tcp : Filter
-  as_tcp = naming (is_protocol tcp) f
+  as_tcp = naming (Some tcp) f
 
   abbrev WithTcp : Type 0
   WithTcp = PortOfSctp f × SomePacketFitted as_tcp
 
   -- the same packet of either protocol
-  swapped : f.protocol ≡ is_protocol sctp → (h : Header) → fits f (of_protocol sctp h) ≡ fits_before as_tcp (of_protocol tcp h)
-  swapped q h = ap (λ (c : Protocol). fits (naming c f) (of_protocol sctp h)) q ∙ sctp_named f h tcp refl
+  swapped : f.protocol ≡ Some sctp → (h : Header) → fits f (of_protocol sctp h) ≡ fits_before as_tcp (of_protocol tcp h)
+  swapped q h = ap (λ (c : Option ℕ). fits (naming c f) (of_protocol sctp h)) q ∙ sctp_named f h tcp refl
 
   with_tcp : WithTcp → SomePacketFits f
   with_tcp w =
@@ -128,7 +127,7 @@ module _ (f : Filter) where
     was e = some_by fits fits_before f s (e ∙ s.agrees)
 
     -- without a protocol, TCP would have done
-    as_tcp_lem : (NoPort f → ⊥) → f.protocol ≡ no_protocol → SomePacketFitted f
+    as_tcp_lem : (NoPort f → ⊥) → f.protocol ≡ None → SomePacketFitted f
     unfolding fits
     as_tcp_lem port q =
         let carries = fits_carries carries_ports f h port s.agrees in
@@ -136,17 +135,17 @@ module _ (f : Filter) where
         some_at fits fits_before f f s tcp (omega arith)
         (fits_alike tcp_or_udp carries_ports f f.protocol f.protocol h tcp h.protocol same (sym carries) (sym (no_index_lem h.protocol carries)) ∙ s.agrees)
 
-    of_sctp_lem : (NoPort f → ⊥) → (x : ℕ) → f.protocol ≡ is_protocol x → h.protocol ≡ sctp → WithTcp
+    of_sctp_lem : (NoPort f → ⊥) → (x : ℕ) → f.protocol ≡ Some x → h.protocol ≡ sctp → WithTcp
     unfolding fits
     of_sctp_lem port x q e =
-        let named = q ∙ ap is_protocol (fits_named carries_ports f h x q s.agrees ∙ e) in (
+        let named = q ∙ ap Some (fits_named carries_ports f h x q s.agrees ∙ e) in (
           record { port = port; protocol = named },
           some_at fits fits_before f as_tcp s tcp (omega arith) (sym (swapped named h) ∙ ap (λ (p : ℕ). fits f (of_protocol p h)) (sym e) ∙ s.agrees),
         )
 
-    by_protocol : (NoPort f → ⊥) → (c : Protocol) → f.protocol ≡ c → SomePacketFitted f ⊎ WithTcp
-    by_protocol port no_protocol q = inl (as_tcp_lem port q)
-    by_protocol port (is_protocol x) q =
+    by_protocol : (NoPort f → ⊥) → (c : Option ℕ) → f.protocol ≡ c → SomePacketFitted f ⊎ WithTcp
+    by_protocol port None q = inl (as_tcp_lem port q)
+    by_protocol port (Some x) q =
         ⊎_elim (λ e. inr (of_sctp_lem port x q (eqb-true h.protocol sctp e)))
         (λ n. inl (was (sym (other_packets f h (says_ne (says_eq h.protocol sctp) n))))) (which (eqb h.protocol sctp))
 
@@ -154,5 +153,5 @@ module _ (f : Filter) where
     unfolding fits
     by_port = ⊎_elim (λ n. inl (was (portless_same tcp_or_udp carries_ports f h n))) (λ port. by_protocol port f.protocol refl) (has_port f)
 
-  pub fitted_now : SomePacketFits f ↔ (SomePacketFitted f ⊎ (PortOfSctp f × SomePacketFitted (naming (is_protocol tcp) f)))
+  pub fitted_now : SomePacketFits f ↔ (SomePacketFitted f ⊎ (PortOfSctp f × SomePacketFitted (naming (Some tcp) f)))
   fitted_now = (by_port, ⊎_elim (still_fitted f) with_tcp)

@@ -1,4 +1,5 @@
 -- The theorems of the layer.
+use Rattle.std.specs.Prelude.{None, Option, Some}
 use mathlib.Core.Path.{◌≡◌, refl}
 use mathlib.Core.Bool.{Bool, true, false, ◌||◌}
 use mathlib.Core.List.{List, [], ◌∷◌}
@@ -11,16 +12,9 @@ use Rattle.laws.proofs.Says.{says_so}
 use Rattle.laws.proofs.Tests.{both, neither}
 use Rattle.filter.specs.declared.component.RemoteAddress.{RemoteAddress}
 use Rattle.filter.specs.declared.component.RemoteAddress.TheVariants.{Absent as no_address, V4, V6}
-use Rattle.filter.specs.declared.component.Protocol.{Protocol}
-use Rattle.filter.specs.declared.component.Protocol.TheVariants.{Absent as no_protocol, Is as is_protocol}
 use Rattle.filter.specs.declared.component.Port.{Port}
 use Rattle.filter.specs.declared.component.Port.TheVariants.{Absent as no_port, Is as is_port, Range}
-use Rattle.filter.specs.declared.component.Index.{Index}
-use Rattle.filter.specs.declared.component.Index.TheVariants.{Absent as no_index, Is as is_index}
 use Rattle.filter.specs.declared.component.Class.{Class}
-use Rattle.filter.specs.declared.component.Class.TheVariants.{Absent as no_class, Masked}
-use Rattle.filter.specs.declared.component.Label.{Label}
-use Rattle.filter.specs.declared.component.Label.TheVariants.{Absent as no_label, Is as is_label}
 use Rattle.filter.specs.declared.component.Filter.{Filter}
 use Rattle.filter.specs.Component.{largest_label}
 use Rattle.filter.specs.Coding.{held, label_fits, well_coded}
@@ -40,34 +34,34 @@ address_range no_address r = record { high = omega arith; low = omega arith }
 address_range (V4 a mask) r = record { high = omega arith; low = omega arith }
 address_range (V6 a mask) r = r.0
 
-version_range : (a : RemoteAddress) (l : Label) → sample_version a l < 2 ^ 8
-version_range no_address no_label = omega arith
-version_range no_address (is_label x) = omega arith
+version_range : (a : RemoteAddress) (l : Option ℕ) → sample_version a l < 2 ^ 8
+version_range no_address None = omega arith
+version_range no_address (Some x) = omega arith
 version_range (V4 a mask) l = omega arith
 version_range (V6 a mask) l = omega arith
 
-protocol_range : (p : Protocol) (ports i : Bool) → ProtocolInRange p → sample_protocol p ports i < 2 ^ 8
-protocol_range (is_protocol x) ports i r = r
-protocol_range no_protocol true i r = omega arith
-protocol_range no_protocol false true r = omega arith
-protocol_range no_protocol false false r = omega arith
+protocol_range : (p : Option ℕ) (ports i : Bool) → ProtocolInRange p → sample_protocol p ports i < 2 ^ 8
+protocol_range (Some x) ports i r = r
+protocol_range None true i r = omega arith
+protocol_range None false true r = omega arith
+protocol_range None false false r = omega arith
 
 port_range : (p : Port) → PortInRange p → sample_port p < 2 ^ 16
 port_range no_port r = omega arith
 port_range (is_port x) r = r
 port_range (Range low high) r = r.0
 
-index_range : (i : Index) → IndexInRange i → sample_index i < 2 ^ 32
-index_range no_index r = omega arith
-index_range (is_index x) r = r
+index_range : (i : Option ℕ) → IndexInRange i → sample_index i < 2 ^ 32
+index_range None r = omega arith
+index_range (Some x) r = r
 
-class_range : (c : Class) → ClassInRange c → sample_class c < 2 ^ 8
-class_range no_class r = omega arith
-class_range (Masked x mask) r = r.0
+class_range : (c : Option Class) → ClassInRange c → sample_class c < 2 ^ 8
+class_range None r = omega arith
+class_range (Some m) r = r.0
 
-label_range : (l : Label) → LabelInRange l → sample_label l < 2 ^ 32
-label_range no_label r = omega arith
-label_range (is_label x) r = r
+label_range : (l : Option ℕ) → LabelInRange l → sample_label l < 2 ^ 32
+label_range None r = omega arith
+label_range (Some x) r = r
 
 sample_range : (f : Filter) → FilterInRange f → HeaderInRange (sample f)
 unfolding sample

@@ -1,9 +1,7 @@
--- Fit as it was before document 02's 4/14, "132 carries both ports as well", to say what became of filters, tables and routes. No function computes it. It is
--- Fit with another answer to which protocols carry ports: all else is as it stands there, and 4/14 changed nothing else. So what is said here of before and now is
+-- Fit as it was before the request that "132 carries both ports as well", to say what became of filters, tables and routes. No function computes it. It is
+-- Fit with another answer to which protocols carry ports: all else is as it stands there, and that request changed nothing else. So what is said here of before and now is
 -- of this answer alone; a change of all else would be a change of both.
-use Rattle.std.specs.Prelude.{◌≡◌, ℕ, Bool, true, false, ◌||◌, eqb}
-use Rattle.filter.specs.declared.component.Protocol.{Protocol}
-use Rattle.filter.specs.declared.component.Protocol.TheVariants.{Absent as no_protocol, Is as is_protocol}
+use Rattle.std.specs.Prelude.{◌≡◌, ℕ, Bool, true, false, ◌||◌, eqb, None, Option, Some}
 use Rattle.filter.specs.declared.component.Port.TheVariants.{Absent as no_port}
 use Rattle.filter.specs.declared.component.Filter.{Filter}
 use Rattle.filter.specs.declared.packet.Header.{Header}
@@ -21,7 +19,7 @@ udp = 17
 abbrev pub sctp : ℕ
 sctp = 132
 
--- "document 01 gives ports only to TCP and UDP"
+-- ports were given "only to TCP and UDP"
 abbrev pub tcp_or_udp : ℕ → Bool
 tcp_or_udp protocol = eqb protocol tcp || eqb protocol udp
 
@@ -36,19 +34,19 @@ SomePacketFitted f = SomePacketFitsBy fits_before f
 abbrev pub NoPort : Filter → Type 0
 NoPort f = (f.local ≡ no_port) × (f.remote ≡ no_port)
 
-pub record PortWith (component : Protocol) (f : Filter) : Type 0 where
+pub record PortWith (component : Option ℕ) (f : Filter) : Type 0 where
   pub port : NoPort f → ⊥
   pub protocol : f.protocol ≡ component
 
 -- "filters with a port and no protocol"
 abbrev pub PortNoProtocol : Filter → Type 0
-PortNoProtocol f = PortWith no_protocol f
+PortNoProtocol f = PortWith None f
 
 abbrev pub PortOfSctp : Filter → Type 0
-PortOfSctp f = PortWith (is_protocol sctp) f
+PortOfSctp f = PortWith (Some sctp) f
 
 -- ---- the same filter, the same packet, but for the protocol
-abbrev pub naming : Protocol → Filter → Filter
+abbrev pub naming : Option ℕ → Filter → Filter
 naming protocol f =
     record {
       precedence = f.precedence;

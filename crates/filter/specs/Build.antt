@@ -1,20 +1,13 @@
 -- "A filter is built up one component at a time, each addition handing the filter back; .."
-use Rattle.std.specs.Prelude.{ℕ, Bool, false, ◌||◌, List, [], ◌∷◌, ltb}
+use Rattle.std.specs.Prelude.{ℕ, Bool, false, ◌||◌, List, [], ◌∷◌, ltb, None, Option, Some}
 use Rattle.laws.specs.Says.{pick}
-use Rattle.laws.specs.Lists.{some}
+use Rattle.std.specs.List.{list_any}
 use Rattle.filter.specs.declared.component.Address.{Address}
 use Rattle.filter.specs.declared.component.RemoteAddress.{RemoteAddress}
 use Rattle.filter.specs.declared.component.RemoteAddress.TheVariants.{Absent as no_address, V4, V6}
-use Rattle.filter.specs.declared.component.Protocol.{Protocol}
-use Rattle.filter.specs.declared.component.Protocol.TheVariants.{Absent as no_protocol, Is as is_protocol}
 use Rattle.filter.specs.declared.component.Port.{Port}
 use Rattle.filter.specs.declared.component.Port.TheVariants.{Absent as no_port, Is as is_port, Range}
-use Rattle.filter.specs.declared.component.Index.{Index}
-use Rattle.filter.specs.declared.component.Index.TheVariants.{Absent as no_index, Is as is_index}
 use Rattle.filter.specs.declared.component.Class.{Class}
-use Rattle.filter.specs.declared.component.Class.TheVariants.{Absent as no_class, Masked}
-use Rattle.filter.specs.declared.component.Label.{Label}
-use Rattle.filter.specs.declared.component.Label.TheVariants.{Absent as no_label, Is as is_label}
 use Rattle.filter.specs.declared.component.Filter.{Filter}
 use Rattle.filter.specs.Component.{ipv4_remote_type, ipv6_remote_type, protocol_type, local_port_type, local_range_type, remote_port_type, remote_range_type}
 use Rattle.filter.specs.Component.{index_type, class_type, label_type, largest_label, types_of, excludes}
@@ -31,7 +24,7 @@ pub data Component : Type 0 where
   class : (class mask : ℕ) → Component
   label : ℕ → Component
 
--- the first column of document 01's table
+-- the type of each, as it is written
 abbrev pub type_of : Component → ℕ
 type_of (ipv4_remote address mask) = ipv4_remote_type
 type_of (ipv6_remote address mask) = ipv6_remote_type
@@ -51,12 +44,12 @@ bare precedence direction =
       precedence = precedence;
       direction = direction;
       address = no_address;
-      protocol = no_protocol;
+      protocol = None;
       local = no_port;
       remote = no_port;
-      index = no_index;
-      class = no_class;
-      label = no_label;
+      index = None;
+      class = None;
+      label = None;
     }
 
 -- a place that holds nothing
@@ -78,7 +71,7 @@ with_address x f =
       label = f.label;
     }
 
-abbrev pub with_protocol : Protocol → Filter → Filter
+abbrev pub with_protocol : Option ℕ → Filter → Filter
 with_protocol x f =
     record {
       precedence = f.precedence;
@@ -120,7 +113,7 @@ with_remote x f =
       label = f.label;
     }
 
-abbrev pub with_index : Index → Filter → Filter
+abbrev pub with_index : Option ℕ → Filter → Filter
 with_index x f =
     record {
       precedence = f.precedence;
@@ -134,7 +127,7 @@ with_index x f =
       label = f.label;
     }
 
-abbrev pub with_class : Class → Filter → Filter
+abbrev pub with_class : Option Class → Filter → Filter
 with_class x f =
     record {
       precedence = f.precedence;
@@ -148,7 +141,7 @@ with_class x f =
       label = f.label;
     }
 
-abbrev pub with_label : Label → Filter → Filter
+abbrev pub with_label : Option ℕ → Filter → Filter
 with_label x f =
     record {
       precedence = f.precedence;
@@ -166,18 +159,18 @@ with_label x f =
 abbrev pub put : Component → Filter → Filter
 put (ipv4_remote address mask) f = with_address (V4 address mask) f
 put (ipv6_remote address mask) f = with_address (V6 address mask) f
-put (protocol x) f = with_protocol (is_protocol x) f
+put (protocol x) f = with_protocol (Some x) f
 put (local_port x) f = with_local (is_port x) f
 put (local_range low high) f = with_local (Range low high) f
 put (remote_port x) f = with_remote (is_port x) f
 put (remote_range low high) f = with_remote (Range low high) f
-put (index x) f = with_index (is_index x) f
-put (class x mask) f = with_class (Masked x mask) f
-put (label x) f = with_label (is_label x) f
+put (index x) f = with_index (Some x) f
+put (class x mask) f = with_class (Some (record { class = x; mask = mask })) f
+put (label x) f = with_label (Some x) f
 
 -- "the type is held already, is excluded by one held"
 unfoldable pub excluded : Filter → ℕ → Bool
-excluded f t = some (excludes t) (types_of f)
+excluded f t = list_any (excludes t) (types_of f)
 
 -- "or is a flow label above 1048575"
 abbrev pub too_large : Component → Bool

@@ -1,22 +1,20 @@
 -- What a filter is by itself.
-use Rattle.std.specs.Prelude.{ℕ, Bool, true, not, ◌&&◌, ◌||◌, eqb, leb}
-use Rattle.laws.specs.Lists.{some}
-use Rattle.filter.specs.declared.component.Label.{Label}
-use Rattle.filter.specs.declared.component.Label.TheVariants.{Absent as no_label, Is as is_label}
+use Rattle.std.specs.Prelude.{ℕ, Bool, true, not, ◌&&◌, ◌||◌, eqb, leb, None, Option, Some}
+use Rattle.std.specs.List.{list_any}
 use Rattle.filter.specs.declared.component.Filter.{Filter}
 use Rattle.filter.specs.Component.{largest_label, types_of, present}
 
 -- "Contents hold at least one component": a filter that holds none is not held
 unfoldable pub held : Filter → Bool
-held f = some present (types_of f)
+held f = list_any present (types_of f)
 
 -- "direction at most 3"
 abbrev pub largest_direction : ℕ
 largest_direction = 3
 
-abbrev pub label_fits : Label → Bool
-label_fits no_label = true
-label_fits (is_label label) = leb label largest_label
+abbrev pub label_fits : Option ℕ → Bool
+label_fits None = true
+label_fits (Some label) = leb label largest_label
 
 -- "each filter is well coded (flow label at most 1048575, direction at most 3)"; "Contents hold at least one component"
 unfoldable pub well_coded : Filter → Bool

@@ -1,18 +1,11 @@
--- The component types of document 01's table, those that a filter has, and which of them exclude which.
-use Rattle.std.specs.Prelude.{ℕ, Bool, not, ◌&&◌, List, [], ◌∷◌, eqb}
+-- The component types, those that a filter has, and which of them exclude which.
+use Rattle.std.specs.Prelude.{ℕ, Bool, not, ◌&&◌, List, [], ◌∷◌, eqb, None, Option, Some}
 use Rattle.laws.specs.Says.{pick}
 use Rattle.filter.specs.declared.component.RemoteAddress.{RemoteAddress}
 use Rattle.filter.specs.declared.component.RemoteAddress.TheVariants.{Absent as no_address, V4, V6}
-use Rattle.filter.specs.declared.component.Protocol.{Protocol}
-use Rattle.filter.specs.declared.component.Protocol.TheVariants.{Absent as no_protocol, Is as is_protocol}
 use Rattle.filter.specs.declared.component.Port.{Port}
 use Rattle.filter.specs.declared.component.Port.TheVariants.{Absent as no_port, Is as is_port, Range}
-use Rattle.filter.specs.declared.component.Index.{Index}
-use Rattle.filter.specs.declared.component.Index.TheVariants.{Absent as no_index, Is as is_index}
 use Rattle.filter.specs.declared.component.Class.{Class}
-use Rattle.filter.specs.declared.component.Class.TheVariants.{Absent as no_class, Masked}
-use Rattle.filter.specs.declared.component.Label.{Label}
-use Rattle.filter.specs.declared.component.Label.TheVariants.{Absent as no_label, Is as is_label}
 use Rattle.filter.specs.declared.component.Filter.{Filter}
 
 -- "flow label, low 20 bits"
@@ -64,9 +57,9 @@ type_of_address no_address = 0
 type_of_address (V4 address mask) = ipv4_remote_type
 type_of_address (V6 address mask) = ipv6_remote_type
 
-abbrev pub type_of_protocol : Protocol → ℕ
-type_of_protocol no_protocol = 0
-type_of_protocol (is_protocol protocol) = protocol_type
+abbrev pub type_of_protocol : Option ℕ → ℕ
+type_of_protocol None = 0
+type_of_protocol (Some protocol) = protocol_type
 
 abbrev pub type_of_port : ℕ → ℕ → Port → ℕ
 type_of_port one range no_port = 0
@@ -79,17 +72,17 @@ type_of_local port = type_of_port local_port_type local_range_type port
 abbrev pub type_of_remote : Port → ℕ
 type_of_remote port = type_of_port remote_port_type remote_range_type port
 
-abbrev pub type_of_index : Index → ℕ
-type_of_index no_index = 0
-type_of_index (is_index index) = index_type
+abbrev pub type_of_index : Option ℕ → ℕ
+type_of_index None = 0
+type_of_index (Some index) = index_type
 
-abbrev pub type_of_class : Class → ℕ
-type_of_class no_class = 0
-type_of_class (Masked class mask) = class_type
+abbrev pub type_of_class : Option Class → ℕ
+type_of_class None = 0
+type_of_class (Some m) = class_type
 
-abbrev pub type_of_label : Label → ℕ
-type_of_label no_label = 0
-type_of_label (is_label label) = label_type
+abbrev pub type_of_label : Option ℕ → ℕ
+type_of_label None = 0
+type_of_label (Some label) = label_type
 
 abbrev pub types_of : Filter → List ℕ
 types_of f =

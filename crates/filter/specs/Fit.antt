@@ -1,19 +1,12 @@
 -- Packets and fit (house model).
-use Rattle.std.specs.Prelude.{ℕ, ◌/◌, ◌^◌, Bool, true, ◌&&◌, ◌||◌, eqb, leb}
+use Rattle.std.specs.Prelude.{ℕ, ◌/◌, ◌^◌, Bool, true, ◌&&◌, ◌||◌, eqb, leb, None, Option, Some}
 use Rattle.laws.specs.Numbers.{same_under, within}
 use Rattle.filter.specs.declared.component.Address.{Address}
 use Rattle.filter.specs.declared.component.RemoteAddress.{RemoteAddress}
 use Rattle.filter.specs.declared.component.RemoteAddress.TheVariants.{Absent as no_address, V4, V6}
-use Rattle.filter.specs.declared.component.Protocol.{Protocol}
-use Rattle.filter.specs.declared.component.Protocol.TheVariants.{Absent as no_protocol, Is as is_protocol}
 use Rattle.filter.specs.declared.component.Port.{Port}
 use Rattle.filter.specs.declared.component.Port.TheVariants.{Absent as no_port, Is as is_port, Range}
-use Rattle.filter.specs.declared.component.Index.{Index}
-use Rattle.filter.specs.declared.component.Index.TheVariants.{Absent as no_index, Is as is_index}
 use Rattle.filter.specs.declared.component.Class.{Class}
-use Rattle.filter.specs.declared.component.Class.TheVariants.{Absent as no_class, Masked}
-use Rattle.filter.specs.declared.component.Label.{Label}
-use Rattle.filter.specs.declared.component.Label.TheVariants.{Absent as no_label, Is as is_label}
 use Rattle.filter.specs.declared.component.Filter.{Filter}
 use Rattle.filter.specs.declared.packet.Header.{Header}
 use Rattle.filter.specs.Component.{largest_label}
@@ -25,7 +18,7 @@ valid_at version label = eqb version 4 || (eqb version 6 && leb label largest_la
 unfoldable pub valid_header : Header → Bool
 valid_header h = valid_at h.version h.label
 
--- "Ports count only for protocols 6 and 17"; document 02, 4/14: "132 carries both ports as well"
+-- "Ports count only for protocols 6 and 17"; and later: "132 carries both ports as well"
 abbrev pub carries_ports : ℕ → Bool
 carries_ports protocol = eqb protocol 6 || eqb protocol 17 || eqb protocol 132
 
@@ -49,9 +42,9 @@ agrees_address (V4 a mask) version address = eqb version 4 && same_under 32 mask
 agrees_address (V6 a mask) version address =
     eqb version 6 && same_under 64 mask.high a.high address.high && same_under 64 mask.low a.low address.low
 
-abbrev pub agrees_protocol : Protocol → ℕ → Bool
-agrees_protocol no_protocol protocol = true
-agrees_protocol (is_protocol x) protocol = eqb x protocol
+abbrev pub agrees_protocol : Option ℕ → ℕ → Bool
+agrees_protocol None protocol = true
+agrees_protocol (Some x) protocol = eqb x protocol
 
 -- "ranges inclusive". Which protocols carry ports is a parameter here and below: `fits` takes `carries_ports`, and what is said of fit as it was takes another
 abbrev pub agrees_port_by : (ℕ → Bool) → Port → ℕ → ℕ → Bool
@@ -59,17 +52,17 @@ agrees_port_by carries no_port protocol port = true
 agrees_port_by carries (is_port x) protocol port = carries protocol && eqb x port
 agrees_port_by carries (Range low high) protocol port = carries protocol && within low high port
 
-abbrev pub agrees_index : Index → ℕ → ℕ → Bool
-agrees_index no_index protocol index = true
-agrees_index (is_index x) protocol index = carries_index protocol && eqb x index
+abbrev pub agrees_index : Option ℕ → ℕ → ℕ → Bool
+agrees_index None protocol index = true
+agrees_index (Some x) protocol index = carries_index protocol && eqb x index
 
-abbrev pub agrees_class : Class → ℕ → Bool
-agrees_class no_class class = true
-agrees_class (Masked x mask) class = same_under 8 mask x class
+abbrev pub agrees_class : Option Class → ℕ → Bool
+agrees_class None class = true
+agrees_class (Some m) class = same_under 8 m.mask m.class class
 
-abbrev pub agrees_label : Label → ℕ → ℕ → Bool
-agrees_label no_label version label = true
-agrees_label (is_label x) version label = carries_label version && eqb x label
+abbrev pub agrees_label : Option ℕ → ℕ → ℕ → Bool
+agrees_label None version label = true
+agrees_label (Some x) version label = carries_label version && eqb x label
 
 -- ---- "A filter fits if every component agrees"
 -- those on the protocol and on fields that count only for some protocols

@@ -1,19 +1,12 @@
 -- "fits some packet": what it means, and how it is computed.
-use Rattle.std.specs.Prelude.{◌≡◌, ℕ, ◌*◌, ◌^◌, Bool, true, ◌&&◌, ◌||◌}
+use Rattle.std.specs.Prelude.{◌≡◌, ℕ, ◌*◌, ◌^◌, Bool, true, ◌&&◌, ◌||◌, None, Option, Some}
 use Rattle.laws.specs.Says.{pick}
 use Rattle.filter.specs.declared.component.Address.{Address}
 use Rattle.filter.specs.declared.component.RemoteAddress.{RemoteAddress}
 use Rattle.filter.specs.declared.component.RemoteAddress.TheVariants.{Absent as no_address, V4, V6}
-use Rattle.filter.specs.declared.component.Protocol.{Protocol}
-use Rattle.filter.specs.declared.component.Protocol.TheVariants.{Absent as no_protocol, Is as is_protocol}
 use Rattle.filter.specs.declared.component.Port.{Port}
 use Rattle.filter.specs.declared.component.Port.TheVariants.{Absent as no_port, Is as is_port, Range}
-use Rattle.filter.specs.declared.component.Index.{Index}
-use Rattle.filter.specs.declared.component.Index.TheVariants.{Absent as no_index, Is as is_index}
 use Rattle.filter.specs.declared.component.Class.{Class}
-use Rattle.filter.specs.declared.component.Class.TheVariants.{Absent as no_class, Masked}
-use Rattle.filter.specs.declared.component.Label.{Label}
-use Rattle.filter.specs.declared.component.Label.TheVariants.{Absent as no_label, Is as is_label}
 use Rattle.filter.specs.declared.component.Filter.{Filter}
 use Rattle.filter.specs.declared.packet.Header.{Header}
 use Rattle.filter.specs.Component.{type_of_local, type_of_remote, type_of_index, present}
@@ -34,9 +27,9 @@ SomePacketFits f = SomePacketFitsBy fits f
 
 -- ---- The packet that a filter describes: each component's own value, of a range the low end; a version and a protocol that the components
 -- leave open are ones for which the others count.
-abbrev pub sample_version : RemoteAddress → Label → ℕ
-sample_version no_address no_label = 4
-sample_version no_address (is_label x) = 6
+abbrev pub sample_version : RemoteAddress → Option ℕ → ℕ
+sample_version no_address None = 4
+sample_version no_address (Some x) = 6
 sample_version (V4 a mask) label = 4
 sample_version (V6 a mask) label = 6
 
@@ -45,26 +38,26 @@ sample_address no_address = record { high = 0; low = 0 }
 sample_address (V4 a mask) = record { high = a * 2 ^ 32; low = 0 }
 sample_address (V6 a mask) = a
 
-abbrev pub sample_protocol : Protocol → Bool → Bool → ℕ
-sample_protocol no_protocol ports index = pick ports 6 (pick index 50 0)
-sample_protocol (is_protocol x) ports index = x
+abbrev pub sample_protocol : Option ℕ → Bool → Bool → ℕ
+sample_protocol None ports index = pick ports 6 (pick index 50 0)
+sample_protocol (Some x) ports index = x
 
 abbrev pub sample_port : Port → ℕ
 sample_port no_port = 0
 sample_port (is_port x) = x
 sample_port (Range low high) = low
 
-abbrev pub sample_index : Index → ℕ
-sample_index no_index = 0
-sample_index (is_index x) = x
+abbrev pub sample_index : Option ℕ → ℕ
+sample_index None = 0
+sample_index (Some x) = x
 
-abbrev pub sample_class : Class → ℕ
-sample_class no_class = 0
-sample_class (Masked x mask) = x
+abbrev pub sample_class : Option Class → ℕ
+sample_class None = 0
+sample_class (Some m) = m.class
 
-abbrev pub sample_label : Label → ℕ
-sample_label no_label = 0
-sample_label (is_label x) = x
+abbrev pub sample_label : Option ℕ → ℕ
+sample_label None = 0
+sample_label (Some x) = x
 
 unfoldable pub sample : Filter → Header
 sample f =

@@ -1,18 +1,11 @@
 -- Every number in its type's range: what the code's types give by themselves, said of the definitions' natural numbers.
-use Rattle.std.specs.Prelude.{◌^◌, ◌<◌}
+use Rattle.std.specs.Prelude.{ℕ, ◌^◌, ◌<◌, None, Option, Some}
 use Rattle.filter.specs.declared.component.Address.{Address}
 use Rattle.filter.specs.declared.component.RemoteAddress.{RemoteAddress}
 use Rattle.filter.specs.declared.component.RemoteAddress.TheVariants.{Absent as no_address, V4, V6}
-use Rattle.filter.specs.declared.component.Protocol.{Protocol}
-use Rattle.filter.specs.declared.component.Protocol.TheVariants.{Absent as no_protocol, Is as is_protocol}
 use Rattle.filter.specs.declared.component.Port.{Port}
 use Rattle.filter.specs.declared.component.Port.TheVariants.{Absent as no_port, Is as is_port, Range}
-use Rattle.filter.specs.declared.component.Index.{Index}
-use Rattle.filter.specs.declared.component.Index.TheVariants.{Absent as no_index, Is as is_index}
 use Rattle.filter.specs.declared.component.Class.{Class}
-use Rattle.filter.specs.declared.component.Class.TheVariants.{Absent as no_class, Masked}
-use Rattle.filter.specs.declared.component.Label.{Label}
-use Rattle.filter.specs.declared.component.Label.TheVariants.{Absent as no_label, Is as is_label}
 use Rattle.filter.specs.declared.component.Filter.{Filter}
 use Rattle.filter.specs.declared.packet.Header.{Header}
 
@@ -35,26 +28,26 @@ RemoteInRange no_address = Unit {0}
 RemoteInRange (V4 address mask) = (address < 2 ^ 32) × (mask < 2 ^ 32)
 RemoteInRange (V6 address mask) = AddressInRange address × AddressInRange mask
 
-abbrev pub ProtocolInRange : Protocol → Type 0
-ProtocolInRange no_protocol = Unit {0}
-ProtocolInRange (is_protocol x) = x < 2 ^ 8
+abbrev pub ProtocolInRange : Option ℕ → Type 0
+ProtocolInRange None = Unit {0}
+ProtocolInRange (Some x) = x < 2 ^ 8
 
 abbrev pub PortInRange : Port → Type 0
 PortInRange no_port = Unit {0}
 PortInRange (is_port x) = x < 2 ^ 16
 PortInRange (Range low high) = (low < 2 ^ 16) × (high < 2 ^ 16)
 
-abbrev pub IndexInRange : Index → Type 0
-IndexInRange no_index = Unit {0}
-IndexInRange (is_index x) = x < 2 ^ 32
+abbrev pub IndexInRange : Option ℕ → Type 0
+IndexInRange None = Unit {0}
+IndexInRange (Some x) = x < 2 ^ 32
 
-abbrev pub ClassInRange : Class → Type 0
-ClassInRange no_class = Unit {0}
-ClassInRange (Masked x mask) = (x < 2 ^ 8) × (mask < 2 ^ 8)
+abbrev pub ClassInRange : Option Class → Type 0
+ClassInRange None = Unit {0}
+ClassInRange (Some m) = (m.class < 2 ^ 8) × (m.mask < 2 ^ 8)
 
-abbrev pub LabelInRange : Label → Type 0
-LabelInRange no_label = Unit {0}
-LabelInRange (is_label x) = x < 2 ^ 32
+abbrev pub LabelInRange : Option ℕ → Type 0
+LabelInRange None = Unit {0}
+LabelInRange (Some x) = x < 2 ^ 32
 
 pub record FilterInRange (f : Filter) : Type 0 where
   pub precedence : f.precedence < 2 ^ 8

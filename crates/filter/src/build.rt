@@ -1,12 +1,11 @@
 // A filter is built up one component at a time, each addition handing the filter back.
 ghost use Rattle.std.specs.Prelude.{◌≡◌};
-ghost use Rattle.filter.specs.Component.{family, excludes};
+ghost use Rattle.filter.specs.Component.{family, excludes, types_of};
 ghost use Rattle.filter.specs.Build.{Component, excluded, bare, added};
 
 use crate::component::{
-    Address, CLASS, Class, Filter, INDEX, IPV4_REMOTE, IPV6_REMOTE, Index, LABEL, LARGEST_LABEL,
-    LOCAL_PORT, LOCAL_RANGE, Label, PROTOCOL, Port, Protocol, REMOTE_PORT, REMOTE_RANGE,
-    RemoteAddress, address_type, class_type, index_type, label_type, port_type, protocol_type,
+    Address, CLASS, Class, Filter, INDEX, IPV4_REMOTE, IPV6_REMOTE, LABEL, LARGEST_LABEL,
+    LOCAL_PORT, LOCAL_RANGE, PROTOCOL, Port, REMOTE_PORT, REMOTE_RANGE, RemoteAddress,
 };
 
 fn family_of(t: u8) -> u8
@@ -23,7 +22,7 @@ fn family_of(t: u8) -> u8
 fn exclude(t: u8, u: u8) -> bool
     ensures { result ≡ excludes t u }
 {
-    (u != 0) & (family_of(t) == family_of(u))
+    u != 0 && family_of(t) == family_of(u)
 }
 
 impl Filter {
@@ -35,37 +34,39 @@ impl Filter {
             precedence,
             direction,
             address: RemoteAddress::Absent,
-            protocol: Protocol::Absent,
+            protocol: None,
             local: Port::Absent,
             remote: Port::Absent,
-            index: Index::Absent,
-            class: Class::Absent,
-            label: Label::Absent,
+            index: None,
+            class: None,
+            label: None,
         }
     }
 
-    // Whether a component of type t cannot be added: its type is held already, or excluded by one held.
-    #[tactic(auto, using(laws::proofs::Tests::or_assoc, laws::proofs::Tests::or_false), unfolding(crate::specs::Build::excluded))]
-    pub fn excludes_type(self, t: u8) -> bool
-        ensures { result ≡ excluded self t }
+    // In the order of the table; 0, which is no type, where a component is absent.
+    fn types(&self) -> [u8; 7]
+        ensures { result ≡ types_of self.now }
     {
-        let address = self.address;
-        let protocol = self.protocol;
-        let local = self.local;
-        let remote = self.remote;
-        let index = self.index;
-        let class = self.class;
-        let label = self.label;
-        exclude(t, address_type(address))
-            | exclude(t, protocol_type(protocol))
-            | exclude(t, port_type(LOCAL_PORT, LOCAL_RANGE, local))
-            | exclude(t, port_type(REMOTE_PORT, REMOTE_RANGE, remote))
-            | exclude(t, index_type(index))
-            | exclude(t, class_type(class))
-            | exclude(t, label_type(label))
+        [
+            self.address.type_octet(),
+            self.protocol.map_or(0, |_| PROTOCOL),
+            self.local.type_octet(LOCAL_PORT, LOCAL_RANGE),
+            self.remote.type_octet(REMOTE_PORT, REMOTE_RANGE),
+            self.index.map_or(0, |_| INDEX),
+            self.class.map_or(0, |_| CLASS),
+            self.label.map_or(0, |_| LABEL),
+        ]
     }
 
-    #[tactic(auto, using(crate::proofs::Adding::kept, crate::proofs::Adding::placed))]
+    // Whether a component of type t cannot be added: its type is held already, or excluded by one held.
+    #[tactic(auto, unfolding(crate::specs::Build::excluded))]
+    pub fn excludes_type(&self, t: u8) -> bool
+        ensures { result ≡ excluded self.now t }
+    {
+        self.types().iter().any(|held| exclude(t, *held))
+    }
+
+    #[tactic(auto, unfolding(crate::specs::Build::added))]
     pub fn with_ipv4_remote(self, address: u32, mask: u32) -> Filter
         ensures { result ≡ added self (Component.ipv4_remote address mask) }
     {
@@ -78,7 +79,7 @@ impl Filter {
         }
     }
 
-    #[tactic(auto, using(crate::proofs::Adding::kept, crate::proofs::Adding::placed))]
+    #[tactic(auto, unfolding(crate::specs::Build::added))]
     pub fn with_ipv6_remote(self, address: Address, mask: Address) -> Filter
         ensures { result ≡ added self (Component.ipv6_remote address mask) }
     {
@@ -91,7 +92,7 @@ impl Filter {
         }
     }
 
-    #[tactic(auto, using(crate::proofs::Adding::kept, crate::proofs::Adding::placed))]
+    #[tactic(auto, unfolding(crate::specs::Build::added))]
     pub fn with_protocol(self, protocol: u8) -> Filter
         ensures { result ≡ added self (Component.protocol protocol) }
     {
@@ -99,12 +100,12 @@ impl Filter {
             return self;
         }
         Filter {
-            protocol: Protocol::Is(protocol),
+            protocol: Some(protocol),
             ..self
         }
     }
 
-    #[tactic(auto, using(crate::proofs::Adding::kept, crate::proofs::Adding::placed))]
+    #[tactic(auto, unfolding(crate::specs::Build::added))]
     pub fn with_local_port(self, port: u16) -> Filter
         ensures { result ≡ added self (Component.local_port port) }
     {
@@ -117,7 +118,7 @@ impl Filter {
         }
     }
 
-    #[tactic(auto, using(crate::proofs::Adding::kept, crate::proofs::Adding::placed))]
+    #[tactic(auto, unfolding(crate::specs::Build::added))]
     pub fn with_local_range(self, low: u16, high: u16) -> Filter
         ensures { result ≡ added self (Component.local_range low high) }
     {
@@ -130,7 +131,7 @@ impl Filter {
         }
     }
 
-    #[tactic(auto, using(crate::proofs::Adding::kept, crate::proofs::Adding::placed))]
+    #[tactic(auto, unfolding(crate::specs::Build::added))]
     pub fn with_remote_port(self, port: u16) -> Filter
         ensures { result ≡ added self (Component.remote_port port) }
     {
@@ -143,7 +144,7 @@ impl Filter {
         }
     }
 
-    #[tactic(auto, using(crate::proofs::Adding::kept, crate::proofs::Adding::placed))]
+    #[tactic(auto, unfolding(crate::specs::Build::added))]
     pub fn with_remote_range(self, low: u16, high: u16) -> Filter
         ensures { result ≡ added self (Component.remote_range low high) }
     {
@@ -156,7 +157,7 @@ impl Filter {
         }
     }
 
-    #[tactic(auto, using(crate::proofs::Adding::kept, crate::proofs::Adding::placed))]
+    #[tactic(auto, unfolding(crate::specs::Build::added))]
     pub fn with_index(self, index: u32) -> Filter
         ensures { result ≡ added self (Component.index index) }
     {
@@ -164,12 +165,12 @@ impl Filter {
             return self;
         }
         Filter {
-            index: Index::Is(index),
+            index: Some(index),
             ..self
         }
     }
 
-    #[tactic(auto, using(crate::proofs::Adding::kept, crate::proofs::Adding::placed))]
+    #[tactic(auto, unfolding(crate::specs::Build::added))]
     pub fn with_class(self, class: u8, mask: u8) -> Filter
         ensures { result ≡ added self (Component.class class mask) }
     {
@@ -177,20 +178,20 @@ impl Filter {
             return self;
         }
         Filter {
-            class: Class::Masked { class, mask },
+            class: Some(Class { class, mask }),
             ..self
         }
     }
 
-    #[tactic(auto, using(crate::proofs::Adding::kept, crate::proofs::Adding::placed))]
+    #[tactic(auto, unfolding(crate::specs::Build::added))]
     pub fn with_label(self, label: u32) -> Filter
         ensures { result ≡ added self (Component.label label) }
     {
-        if (LARGEST_LABEL < label) | self.excludes_type(LABEL) {
+        if LARGEST_LABEL < label || self.excludes_type(LABEL) {
             return self;
         }
         Filter {
-            label: Label::Is(label),
+            label: Some(label),
             ..self
         }
     }

@@ -1,6 +1,6 @@
-// The components of a filter, each absent or there, and the type octets of document 01's table.
+// The components of a filter, each absent or there, and the types that name them, an octet each.
 ghost use Rattle.std.specs.Prelude.{◌≡◌};
-ghost use Rattle.filter.specs.Component.{type_of_address, type_of_protocol, type_of_port, type_of_index, type_of_class, type_of_label};
+ghost use Rattle.filter.specs.Component.{type_of_address, type_of_port};
 
 pub const PLACES: usize = 16;
 
@@ -29,123 +29,70 @@ pub const CLASS: u8 = 0x70;
 pub const LABEL: u8 = 0x80;
 
 // Sixteen octets, the first eight in `high`.
-#[derive(Clone, Copy)]
+#[derive(Clone, Copy, PartialEq, Eq)]
 pub struct Address {
     pub high: u64,
     pub low: u64,
 }
 
-#[derive(Clone, Copy)]
+// Not an Option: of the two that may be there each excludes the other.
+#[derive(Clone, Copy, PartialEq, Eq)]
 pub enum RemoteAddress {
     Absent,
     V4 { address: u32, mask: u32 },
     V6 { address: Address, mask: Address },
 }
 
-#[derive(Clone, Copy)]
-pub enum Protocol {
-    Absent,
-    Is(u8),
-}
-
-#[derive(Clone, Copy)]
+// Likewise.
+#[derive(Clone, Copy, PartialEq, Eq)]
 pub enum Port {
     Absent,
     Is(u16),
     Range { low: u16, high: u16 },
 }
 
-#[derive(Clone, Copy)]
-pub enum Index {
-    Absent,
-    Is(u32),
-}
-
-#[derive(Clone, Copy)]
-pub enum Class {
-    Absent,
-    Masked { class: u8, mask: u8 },
-}
-
-#[derive(Clone, Copy)]
-pub enum Label {
-    Absent,
-    Is(u32),
+#[derive(Clone, Copy, PartialEq, Eq)]
+pub struct Class {
+    pub class: u8,
+    pub mask: u8,
 }
 
 // `address` is the remote address, `local` and `remote` are the ports.
-#[derive(Clone, Copy)]
+#[derive(Clone, Copy, PartialEq, Eq)]
 pub struct Filter {
     pub precedence: u8,
     pub direction: u8,
     pub address: RemoteAddress,
-    pub protocol: Protocol,
+    pub protocol: Option<u8>,
     pub local: Port,
     pub remote: Port,
-    pub index: Index,
-    pub class: Class,
-    pub label: Label,
+    pub index: Option<u32>,
+    pub class: Option<Class>,
+    pub label: Option<u32>,
 }
 
-pub(crate) fn address_type(address: RemoteAddress) -> u8
-    ensures { result ≡ type_of_address address }
-{
-    match address {
-        RemoteAddress::Absent => 0,
-        RemoteAddress::V4 {
-            address: _,
-            mask: _,
-        } => IPV4_REMOTE,
-        RemoteAddress::V6 {
-            address: _,
-            mask: _,
-        } => IPV6_REMOTE,
+impl RemoteAddress {
+    // 0, which is no type, where it is absent.
+    pub(crate) fn type_octet(&self) -> u8
+        ensures { result ≡ type_of_address self.now }
+    {
+        match self {
+            RemoteAddress::Absent => 0,
+            RemoteAddress::V4 { .. } => IPV4_REMOTE,
+            RemoteAddress::V6 { .. } => IPV6_REMOTE,
+        }
     }
 }
 
-pub(crate) fn protocol_type(protocol: Protocol) -> u8
-    ensures { result ≡ type_of_protocol protocol }
-{
-    match protocol {
-        Protocol::Absent => 0,
-        Protocol::Is(_) => PROTOCOL,
-    }
-}
-
-// The type of one port is `one`, that of a range `range`.
-pub(crate) fn port_type(one: u8, range: u8, port: Port) -> u8
-    ensures { result ≡ type_of_port one range port }
-{
-    match port {
-        Port::Absent => 0,
-        Port::Is(_) => one,
-        Port::Range { low: _, high: _ } => range,
-    }
-}
-
-pub(crate) fn index_type(index: Index) -> u8
-    ensures { result ≡ type_of_index index }
-{
-    match index {
-        Index::Absent => 0,
-        Index::Is(_) => INDEX,
-    }
-}
-
-pub(crate) fn class_type(class: Class) -> u8
-    ensures { result ≡ type_of_class class }
-{
-    match class {
-        Class::Absent => 0,
-        Class::Masked { class: _, mask: _ } => CLASS,
-    }
-}
-
-pub(crate) fn label_type(label: Label) -> u8
-    ensures { result ≡ type_of_label label }
-{
-    match label {
-        Label::Absent => 0,
-        Label::Is(_) => LABEL,
+impl Port {
+    // The type of one port is `one`, that of a range `range`.
+    pub(crate) fn type_octet(&self, one: u8, range: u8) -> u8
+        ensures { result ≡ type_of_port one range self.now }
+    {
+        match self {
+            Port::Absent => 0,
+            Port::Is(_) => one,
+            Port::Range { .. } => range,
+        }
     }
 }

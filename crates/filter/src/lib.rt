@@ -7,5 +7,5 @@ pub mod fit;
 pub mod packet;
 pub mod sample;
 
-pub use component::{Address, Class, Filter, Index, Label, Port, Protocol, RemoteAddress};
+pub use component::{Address, Class, Filter, Port, RemoteAddress};
 pub use packet::Header;

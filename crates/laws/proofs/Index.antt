@@ -9,7 +9,10 @@ use native.Mathlib.Numerals.{add-one}
 use native.Mathlib.Omega.{arith}
 use mathlib.Core.List.{List, [], ◌∷◌, ◌++◌, append-nil}
 use lib.Dec.{eqb}
-use lib.ListN.{length, get_or, set, length-set, length-append, get_or-append}
+use lib.ListN.{length, take, get_or, set, length-set, length-append, get_or-append}
+use Rattle.std.specs.List.{list_all, list_any}
+use Rattle.std.proofs.lemmas.List.{take_all}
+use Rattle.std.proofs.lemmas.List.Folds.{list_all_more, list_any_more}
 use lib.Seq.{set-get_or, get_or-set_same, get_or-set_other, ext_get_or, get_or-append_seam}
 use Rattle.laws.specs.Says.{pick}
 use Rattle.laws.specs.Index.{all_below, any_below, SomeBelow, picks, walk, tab, pad}
@@ -49,6 +52,17 @@ module _ (p : ℕ → Bool) where
       go true false false y = refl
       go false b x y = refl
 
+  -- a test of each index is one of each element
+  pub all_of_list : {A : Type 0} (test : A → Bool) (d : A) (xs : List A) (n : ℕ) → length xs ≡ n → ((i : ℕ) → i < n → p i ≡ test (get_or xs i d)) → list_all test xs ≡ all_below p n
+  unfolding all_below
+  all_of_list {A} test d xs n e h = ap (list_all test) (sym (take_all n xs (omega (arith, e)))) ∙ go n (omega (arith, e)) h
+    where
+      go : (k : ℕ) → k ≤ length xs → ((i : ℕ) → i < k → p i ≡ test (get_or xs i d)) → list_all test (take k xs) ≡ all_below p k
+      go zero l q = refl
+      go (suc k) l q =
+          ap (λ (m : ℕ). list_all test (take m xs)) (sym (add-one k)) ∙ list_all_more test xs k d (omega arith)
+          ∙ rw (go k (omega arith) (λ i m. q i (omega arith)), q k (omega arith))
+
   pub any_start : false ≡ any_below p 0
   unfolding any_below
   any_start = refl
@@ -69,6 +83,16 @@ module _ (p : ℕ → Bool) where
   unfolding any_below
   any_same q zero h = refl
   any_same q (suc n) h = rw (any_same q n (λ i l. h i (omega arith)), h n (omega arith))
+
+  pub any_of_list : {A : Type 0} (test : A → Bool) (d : A) (xs : List A) (n : ℕ) → length xs ≡ n → ((i : ℕ) → i < n → p i ≡ test (get_or xs i d)) → list_any test xs ≡ any_below p n
+  unfolding any_below
+  any_of_list {A} test d xs n e h = ap (list_any test) (sym (take_all n xs (omega (arith, e)))) ∙ go n (omega (arith, e)) h
+    where
+      go : (k : ℕ) → k ≤ length xs → ((i : ℕ) → i < k → p i ≡ test (get_or xs i d)) → list_any test (take k xs) ≡ any_below p k
+      go zero l q = refl
+      go (suc k) l q =
+          ap (λ (m : ℕ). list_any test (take m xs)) (sym (add-one k)) ∙ list_any_more test xs k d (omega arith)
+          ∙ rw (go k (omega arith) (λ i m. q i (omega arith)), q k (omega arith))
 
   pub any_more : (i : ℕ) (b r : Bool) → r ≡ b || p i → b ≡ any_below p i → r ≡ any_below p (i + 1)
   unfolding any_below

@@ -10,7 +10,8 @@ use lib.Dec.{eqb, leb}
 use borrow.Author.Tests.{eqb-true, eq-eqb, leb-true, le-leb}
 use Rattle.laws.specs.Index.{imp, all_below, any_below, SomeBelow}
 use Rattle.laws.specs.Says.{pick, Says}
-use Rattle.laws.specs.Lists.{some, Some}
+use Rattle.std.specs.List.{list_any}
+use Rattle.laws.specs.Lists.{Some}
 
 -- a test is true or false
 pub which : (b : Bool) → (b ≡ true) ⊎ (b ≡ false)
@@ -69,7 +70,7 @@ says_or {a = false} {b = b} {P = P} {Q = Q} s r = record { to = λ e. inr (r.to 
     back (inr q) = r.from q
 
 module _ {A : Type 0} {test : A → Bool} {P : A → Type 0} (says : (x : A) → Says (test x) (P x)) where
-  pub says_some : (xs : List A) → Says (some test xs) (Some P xs)
+  pub says_some : (xs : List A) → Says (list_any test xs) (Some P xs)
   says_some [] = record { to = λ e. absurd (false≢true e); from = λ h. absurd h }
   says_some (x ∷ xs) = says_or (says x) (says_some xs)
 

@@ -1,15 +1,15 @@
 -- What a type tells of its values, and what holds of each element of an array.
-use mathlib.Core.Path.{sym, ◌∙◌, subst}
+use mathlib.Core.Path.{sym, subst}
 use Prim.Native.Nat.{ℕ, zero, suc, ◌<◌}
 use native.Mathlib.Nat.{not-suc-le-zero, le_of_suc-le-suc}
-use mathlib.Core.List.{List, [], ◌∷◌, map}
-use lib.ListN.{length, get_or, length-map}
+use mathlib.Core.List.{List, [], ◌∷◌}
+use lib.ListN.{length, get_or}
 use mir.Val.{Val}
 use denote.RattleType.{RattleType}
 use denote.Laws.{Is}
 use denote.Array.{each, Array}
 use denote.Shadow.{shadow}
-use denote.Struct.Field.{Field, array_field}
+use denote.Struct.Field.{Field}
 use Rattle.laws.specs.Lists.{All, Each}
 
 -- P holds of the author's value wherever the machine's value is one of the field's type
@@ -29,17 +29,6 @@ module _ {A : Type 0} (P : A → Type 0) where
 
 pub each_at : {A : Type 0} {P : A → Type 0} {n : ℕ} {xs : List A} → Each P n xs → (d : A) (i : ℕ) → i < n → P (get_or xs i d)
 each_at {A} {P} {n} {xs} h d i l = all_at P xs h.all d i (subst (λ (k : ℕ). i < k) (sym h.count) l)
-
--- of an array that is a field
-module _ (F : Field) (P : F.Value → Type 0) (tells : Tells F P) where
-  each_tells : (xs : List F.Value) (us : List Val) → shadow (each F.row.Denot F.row.own_val (map F.into xs) us) → All P xs
-  each_tells [] us h = tt
-  each_tells (x ∷ xs) [] h = absurd h
-  each_tells (x ∷ xs) (u ∷ us) h = (tells x (u ∷ []) h.0, each_tells xs us h.1)
-
-  pub array_tells : (n : ℕ) → Tells (array_field F n) (Each P n)
-  array_tells n xs vs is =
-      record { count = sym (length-map xs F.into) ∙ is.1.0.1; all = each_tells xs is.0 is.1.1 }
 
 -- of an array that is a parameter, a result or a local of its own: R is the element's row, `the_row` of a declared type
 module _ (R : RattleType) (P : R.Denot → Type 0) (tells : (x : R.Denot) (vs : List Val) → Is R x vs → P x) where

@@ -7,11 +7,6 @@ module _ {A : Type 0} (test : A → Bool) where
   every [] = true
   every (x ∷ xs) = test x && every xs
 
-  -- the test is true of some element
-  abbrev pub some : List A → Bool
-  some [] = false
-  some (x ∷ xs) = test x || some xs
-
 module _ {A B : Type 0} (f : B → A → B) where
   -- f over the elements, from the front
   unfoldable pub fold : B → List A → B
