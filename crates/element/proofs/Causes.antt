@@ -8,9 +8,11 @@ use native.Mathlib.Omega.{arith}
 use lib.Dec.{leb}
 use lib.ListN.{length}
 use borrow.Author.Tests.{leb-true, leb-false, le-leb}
+use Rattle.std.proofs.Common.{None, Option, Some as Well}
 use Rattle.laws.specs.Says.{Says, pick}
 use Rattle.laws.specs.Lists.{every, All, Some}
 use Rattle.laws.proofs.Says.{by_test, says_true, says_and, says_le, says_no}
+use Rattle.filter.specs.declared.component.Filter.{Filter}
 use Rattle.filter.specs.Fittable.{SomePacketFits}
 use Rattle.filter.proofs.Theorems.{fittable_says}
 use Rattle.element.specs.declared.answer.Cause.{Cause}
@@ -18,8 +20,6 @@ use Rattle.element.specs.declared.answer.Cause.TheVariants.{Operation, Semantics
 use Rattle.element.specs.declared.answer.Answer.{Answer}
 use Rattle.element.specs.declared.answer.Answer.TheVariants.{Filters, Identifiers, Bare, Refused}
 use Rattle.element.specs.declared.answer.Element.{Element}
-use Rattle.element.specs.declared.contents.Coded.{Coded}
-use Rattle.element.specs.declared.contents.Coded.TheVariants.{Badly, Well}
 use Rattle.element.specs.Head.{longest}
 use Rattle.element.specs.Numbers.{cause_number, number_of}
 use Rattle.element.specs.Framing.{Raw, identifier_of, Framed, not_framed, filters, identifiers, bare, framed_of}
@@ -46,24 +46,24 @@ same_cause Coding Semantics q = absurd (omega arith)
 same_cause Coding Coding q = refl
 
 -- ---- Step 7: a filter is badly coded, or all are well coded
-some_badly : (rs : List Raw) → entries_of rs ≡ badly → Some (λ r. coded_of r ≡ Badly) rs
+some_badly : (rs : List Raw) → entries_of rs ≡ badly → Some (λ r. coded_of r ≡ None) rs
 unfolding entries_of
 some_badly [] q = absurd (let z : ◌≡◌ {A = ℕ} 0 1 = cc in omega arith)
 some_badly (r ∷ rs) q = go (coded_of r) refl (entries_of rs) refl q (some_badly rs)
   where
-    go : (c : Coded) → coded_of r ≡ c → (E : Entries) → entries_of rs ≡ E → with_entry (identifier_of r) c E ≡ badly
-        → (entries_of rs ≡ badly → Some (λ r. coded_of r ≡ Badly) rs) → Some (λ r. coded_of r ≡ Badly) (r ∷ rs)
-    go Badly p E e q rest = inl p
+    go : (c : Option Filter) → coded_of r ≡ c → (E : Entries) → entries_of rs ≡ E → with_entry (identifier_of r) c E ≡ badly
+        → (entries_of rs ≡ badly → Some (λ r. coded_of r ≡ None) rs) → Some (λ r. coded_of r ≡ None) (r ∷ rs)
+    go None p E e q rest = inl p
     go (Well f) p badly e q rest = inr (rest e)
     go (Well f) p (coded es) e q rest = absurd (let z : ◌≡◌ {A = ℕ} 0 1 = cc in omega arith)
 
-entries_badly : (rs : List Raw) → Some (λ r. coded_of r ≡ Badly) rs → entries_of rs ≡ badly
+entries_badly : (rs : List Raw) → Some (λ r. coded_of r ≡ None) rs → entries_of rs ≡ badly
 unfolding entries_of
 entries_badly (r ∷ rs) (inl h) = rw h
 entries_badly (r ∷ rs) (inr h) = rw (entries_badly rs h) (go (coded_of r))
   where
-    go : (c : Coded) → with_entry (identifier_of r) c badly ≡ badly
-    go Badly = refl
+    go : (c : Option Filter) → with_entry (identifier_of r) c badly ≡ badly
+    go None = refl
     go (Well f) = refl
 entries_badly [] x' = elim x' [ ]
 

@@ -1,4 +1,5 @@
 -- What the reader decodes from octets: every number in its range, and every filter well coded.
+use Rattle.std.specs.Prelude.{Some}
 use mathlib.Core.Path.{◌≡◌, refl, ap, subst}
 use mathlib.Core.Bool.{Bool, true, false, not, ◌&&◌, ◌||◌}
 use mathlib.Core.List.{List, [], ◌∷◌}
@@ -8,6 +9,7 @@ use lib.Dec.{eqb, leb}
 use lib.ListN.{length, take, drop, length-take, length-drop}
 use lib.Seq.{length-take-le}
 use borrow.Author.Tests.{le-leb, le-ltb, leb-true, eqb-false, not-true}
+use Rattle.std.proofs.Common.{None, Option, Some}
 use Rattle.laws.specs.Says.{pick}
 use Rattle.laws.specs.Lists.{All}
 use Rattle.laws.specs.Octets.{be_of}
@@ -16,11 +18,7 @@ use Rattle.laws.proofs.Parts.{all_take, all_drop}
 use Rattle.laws.proofs.Says.{picked}
 use Rattle.laws.proofs.Tests.{or_true, both}
 use Rattle.filter.specs.declared.component.RemoteAddress.TheVariants.{V4, V6}
-use Rattle.filter.specs.declared.component.Protocol.TheVariants.{Is as is_protocol}
 use Rattle.filter.specs.declared.component.Port.TheVariants.{Is as is_port, Range}
-use Rattle.filter.specs.declared.component.Index.TheVariants.{Is as is_index}
-use Rattle.filter.specs.declared.component.Class.TheVariants.{Masked}
-use Rattle.filter.specs.declared.component.Label.TheVariants.{Is as is_label}
 use Rattle.filter.specs.declared.component.Filter.{Filter}
 use Rattle.filter.specs.Component.{largest_label}
 use Rattle.filter.specs.Build.{Component, ipv4_remote, ipv6_remote, protocol, local_port, local_range, remote_port, remote_range, index, class, label, type_of, bare, put, excluded, too_large, added}
@@ -34,8 +32,6 @@ use Rattle.element.specs.declared.answer.SetOperation.{SetOperation}
 use Rattle.element.specs.declared.answer.SetOperation.TheVariants.{Create, Add, Replace}
 use Rattle.element.specs.declared.answer.BareOperation.{BareOperation}
 use Rattle.element.specs.declared.answer.BareOperation.TheVariants.{DeleteTft, NoOperation}
-use Rattle.element.specs.declared.contents.Coded.{Coded}
-use Rattle.element.specs.declared.contents.Coded.TheVariants.{Badly, Well}
 use Rattle.element.specs.Contents.{length_of, known, address_of, component_of, contents_from, contents_of, coded_of}
 use Rattle.element.specs.Framing.{Raw, identifier_of, direction_of, Split, cut, split, with_raw, split_of, rest_fits, Framed, not_framed, filters, identifiers, bare as bare_frame, framed_split, framed_set, framed_identifiers, framed_bare, framed_by, framed_of}
 use Rattle.element.specs.Read.{Entry, Entries, badly, coded, with_entry, entries_of}
@@ -46,14 +42,14 @@ use Rattle.element.specs.Meaning.{Octet, FilterList, CodedList}
 abbrev ComponentInRange : Component → Type 0
 ComponentInRange (ipv4_remote address mask) = RemoteInRange (V4 address mask)
 ComponentInRange (ipv6_remote address mask) = RemoteInRange (V6 address mask)
-ComponentInRange (protocol x) = ProtocolInRange (is_protocol x)
+ComponentInRange (protocol x) = ProtocolInRange (Some x)
 ComponentInRange (local_port x) = PortInRange (is_port x)
 ComponentInRange (local_range low high) = PortInRange (Range low high)
 ComponentInRange (remote_port x) = PortInRange (is_port x)
 ComponentInRange (remote_range low high) = PortInRange (Range low high)
-ComponentInRange (index x) = IndexInRange (is_index x)
-ComponentInRange (class x mask) = ClassInRange (Masked x mask)
-ComponentInRange (label x) = LabelInRange (is_label x)
+ComponentInRange (index x) = IndexInRange (Some x)
+ComponentInRange (class x mask) = ClassInRange (Some (record { class = x; mask = mask }))
+ComponentInRange (label x) = LabelInRange (Some x)
 
 put_in_range : (f : Filter) (c : Component) → FilterInRange f → ComponentInRange c → FilterInRange (put c f)
 put_in_range f (ipv4_remote address mask) r q = record { precedence = r.precedence; direction = r.direction; address = q; protocol = r.protocol; local = r.local; remote = r.remote; index = r.index; class = r.class; label = r.label }
@@ -181,9 +177,9 @@ pub record Decoded (f : Filter) : Type 0 where
   pub sound : Sound f
   pub held : held f ≡ true
 
-abbrev pub DecodedAs : Coded → Type 0
-DecodedAs Badly = Unit {0}
-DecodedAs (Well f) = Decoded f
+abbrev pub DecodedAs : Option Filter → Type 0
+DecodedAs None = Unit {0}
+DecodedAs (Some f) = Decoded f
 
 pub well_coded_lem : (f : Filter) → Decoded f → well_coded f ≡ true
 unfolding well_coded
@@ -200,7 +196,7 @@ contents_from_lem [] zero f h d = d
 contents_from_lem [] (suc k) f h d = tt
 contents_from_lem (t ∷ xs) zero f h d =
     let c = component_of t (take (length_of t) xs) in
-    picked DecodedAs (known t && not (excluded f t)) (contents_from (length_of t) (added f c) xs) Badly
+    picked DecodedAs (known t && not (excluded f t)) (contents_from (length_of t) (added f c) xs) None
     (contents_from_lem xs (length_of t) (added f c) h.1
     (record { sound = added_sound f c (front_in_range t xs h.1) d.sound; held = added_held f c d.held })) tt
 contents_from_lem (x ∷ xs) (suc k) f h d = contents_from_lem xs k f h.1 d
@@ -217,7 +213,7 @@ contents_decoded precedence direction (t ∷ xs) p d h =
       direction = d;
       label = refl;
     } in
-    picked DecodedAs (known t && not (excluded f t)) (contents_from (length_of t) (added f c) xs) Badly
+    picked DecodedAs (known t && not (excluded f t)) (contents_from (length_of t) (added f c) xs) None
     (contents_from_lem xs (length_of t) (added f c) h.1
     (record {
       sound = added_sound f c (front_in_range t xs h.1) bare_sound;
@@ -317,10 +313,10 @@ abbrev pub EntriesInto : ℕ → Entries → Type 0
 EntriesInto n badly = Unit {0}
 EntriesInto n (coded es) = (length es ≡ n) × All EntryDecoded es
 
-with_entry_lem : (n i : ℕ) (c : Coded) (es : Entries) → i < place_count → DecodedAs c → EntriesInto n es → EntriesInto (suc n) (with_entry i c es)
-with_entry_lem n i Badly es l d h = tt
-with_entry_lem n i (Well f) badly l d h = tt
-with_entry_lem n i (Well f) (coded es) l d h = (ap suc h.0, (record { identifier = l; filter = d }, h.1))
+with_entry_lem : (n i : ℕ) (c : Option Filter) (es : Entries) → i < place_count → DecodedAs c → EntriesInto n es → EntriesInto (suc n) (with_entry i c es)
+with_entry_lem n i None es l d h = tt
+with_entry_lem n i (Some f) badly l d h = tt
+with_entry_lem n i (Some f) (coded es) l d h = (ap suc h.0, (record { identifier = l; filter = d }, h.1))
 
 pub raw_decoded : (r : Raw) → RawOctets r → DecodedAs (coded_of r)
 unfolding coded_of

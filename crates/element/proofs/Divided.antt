@@ -18,15 +18,14 @@ use Rattle.element.specs.declared.answer.Answer.TheVariants.{Filters, Identifier
 use Rattle.element.specs.declared.answer.Cause.{Cause}
 use Rattle.element.specs.declared.answer.Cause.TheVariants.{Operation, Semantics, Coding}
 use Rattle.element.specs.declared.portions.Portions.{Portions}
-use Rattle.element.specs.declared.portions.PortionsAnswer.TheVariants.{Taken, TooLong, NotTaken}
-use Rattle.element.specs.declared.portions.PortionsOutcome.{PortionsOutcome}
-use Rattle.element.specs.declared.portions.FinishAnswer.TheVariants.{Read}
+use Rattle.element.specs.declared.portions.PortionRefusal.TheVariants.{TooLong, NotTaken}
 use Rattle.element.specs.Head.{longest}
 use Rattle.element.specs.Numbers.{cause_number, number_of, portions_number, finish_number}
 use Rattle.element.specs.Framing.{framed_of}
 use Rattle.element.specs.Read.{read_element}
 use Rattle.element.specs.Meaning.{Octet}
-use Rattle.element.specs.Portions.{holding, fed_of, sound, leaving, takes, announce_of, feed_of, finished, finish_of, PortionsInRange}
+use Rattle.std.proofs.Common.{Ok, Err}
+use Rattle.element.specs.Portions.{PortionsOutcome, holding, fed_of, sound, leaving, takes, announce_of, feed_of, finished, finish_of, PortionsInRange}
 use Rattle.element.specs.Portions.{PortionCall, announce, feed, finish, after, state_after, number_at, Reached, Feeds, none, fed, refused, finishing}
 use Rattle.element.specs.Portions.{AnnounceGives, FeedGives, FinishGives}
 use Rattle.element.proofs.Holdings.{sound_is, sound_fits, holding_sound, fed_holding, fed_long, takes_says, feed_not, feed_fits, finish_unsound, finish_early, finish_read}
@@ -35,7 +34,7 @@ use Rattle.element.proofs.Theorems.{reader_42}
 -- ---- "A refused portion or finish leaves everything fed before as it stood"
 module _ (p : Portions) (portion : List ℕ) where
   abbrev feed_by : Bool → PortionsOutcome
-  feed_by b = pick b (leaving (holding p.announced (fed_of p ++ portion)) Taken) (leaving p NotTaken)
+  feed_by b = pick b (leaving (holding p.announced (fed_of p ++ portion)) (Ok tt)) (leaving p (Err NotTaken))
 
   stays_by_lem : (b : Bool) → portions_number (feed_by b).answer ≡ 13 → (feed_by b).state ≡ p
   stays_by_lem true q = absurd (omega arith)
@@ -60,16 +59,16 @@ module _ (p : Portions) (before rest : List PortionCall) where
   finish_anywhere = stays_anywhere finish refl
 
 -- ---- "42 on announcing above 255", and then the state is the one that announcing 0 gives
-announce_fits : (n : ℕ) → n ≤ longest → announce_of n ≡ leaving (holding n []) Taken
+announce_fits : (n : ℕ) → n ≤ longest → announce_of n ≡ leaving (holding n []) (Ok tt)
 unfolding announce_of
 announce_fits n l = rw (le-leb n longest l)
 
-announce_by : (P : ℕ → PortionsOutcome → Type 0) (n : ℕ) → (n ≤ longest → P n (leaving (holding n []) Taken)) → (longest < n → P n (leaving (holding 0 []) TooLong))
+announce_by : (P : ℕ → PortionsOutcome → Type 0) (n : ℕ) → (n ≤ longest → P n (leaving (holding n []) (Ok tt))) → (longest < n → P n (leaving (holding 0 []) (Err TooLong)))
     → P n (announce_of n)
 unfolding announce_of
 announce_by P n fits past = go (leb n longest) refl
   where
-    go : (b : Bool) → leb n longest ≡ b → P n (pick b (leaving (holding n []) Taken) (leaving (holding 0 []) TooLong))
+    go : (b : Bool) → leb n longest ≡ b → P n (pick b (leaving (holding n []) (Ok tt)) (leaving (holding 0 []) (Err TooLong)))
     go true q = fits (leb-true n longest q)
     go false q = past (leb-false n longest q)
 
@@ -193,29 +192,29 @@ module _ (n : ℕ) (short : n ≤ longest) (calls : List PortionCall) (portions 
   pub fed_so_far : length (flatten portions) ≤ n → fed_of now ≡ flatten portions
   fed_so_far l = ap fed_of (state_so_far l) ∙ fed_holding n (flatten portions) (omega arith)
 
-  pub portion_taken : (portion : List ℕ) → length (flatten portions ++ portion) ≤ n → feed_of now portion ≡ leaving (holding n (flatten portions ++ portion)) Taken
+  pub portion_taken : (portion : List ℕ) → length (flatten portions ++ portion) ≤ n → feed_of now portion ≡ leaving (holding n (flatten portions ++ portion)) (Ok tt)
   portion_taken portion l =
       let e = length-append (flatten portions) portion in
       ap (λ (p : Portions). feed_of p portion) (state_so_far (omega arith)) ∙ feed_fits n (flatten portions) portion l short
 
 -- .. and when all was fed
 module _ (xs : List ℕ) (short : length xs ≤ longest) (portions : List (List ℕ)) (divided : flatten portions ≡ xs) where
-  all_fed : finish_of (holding (length xs) xs) ≡ finished Read xs
+  all_fed : finish_of (holding (length xs) xs) ≡ finished (Ok tt) xs
   all_fed =
-      finish_read (holding (length xs) xs) (holding_sound (length xs) xs (omega arith)) (omega arith) ∙ ap (finished Read) (fed_holding (length xs) xs short)
+      finish_read (holding (length xs) xs) (holding_sound (length xs) xs (omega arith)) (omega arith) ∙ ap (finished (Ok tt)) (fed_holding (length xs) xs short)
 
   within : length (flatten portions) ≤ length xs
   within = rw divided (omega arith)
 
   pub divided_between : (calls : List PortionCall) → Feeds (announce_of (length xs)).state calls portions
-      → finish_of (state_after (announce_of (length xs)).state calls) ≡ finished Read xs
+      → finish_of (state_after (announce_of (length xs)).state calls) ≡ finished (Ok tt) xs
   divided_between calls feeds =
       ap finish_of (state_so_far (length xs) short calls portions feeds within ∙ ap (holding (length xs)) divided) ∙ all_fed
 
   pub divided_fed : (calls : List PortionCall) → Feeds (announce_of (length xs)).state calls portions → fed_of (state_after (announce_of (length xs)).state calls) ≡ xs
   divided_fed calls feeds = fed_so_far (length xs) short calls portions feeds within ∙ divided
 
-  pub divided_reads : finish_of (state_after (announce_of (length xs)).state (map feed portions)) ≡ finished Read xs
+  pub divided_reads : finish_of (state_after (announce_of (length xs)).state (map feed portions)) ≡ finished (Ok tt) xs
   divided_reads = divided_between (map feed portions) (plainly portions (announce_of (length xs)).state)
     where
       plainly : (ps : List (List ℕ)) (p : Portions) → Feeds p (map feed ps) ps

@@ -10,6 +10,7 @@ use lib.Dec.{eqb, leb}
 use lib.ListN.{length, take, drop, length-append, take-append-drop}
 use lib.Seq.{length-take-le, append_snoc}
 use borrow.Author.Tests.{ne_eqb, leb-true, le-leb}
+use Rattle.std.proofs.Common.{None, Option, Some as Well}
 use Rattle.laws.specs.Says.{pick, Says}
 use Rattle.laws.specs.Lists.{All, Some, every, is_in, repeats}
 use Rattle.laws.proofs.Says.{by_test, picked, says_true, says_eq, says_not, says_or, says_so, says_no, says_ne}
@@ -20,8 +21,6 @@ use Rattle.filter.specs.Build.{bare}
 use Rattle.filter.specs.Fittable.{fittable, SomePacketFits}
 use Rattle.filter.proofs.Asked.{any_asked, asked_fits}
 use Rattle.filter.proofs.Theorems.{fittable_says}
-use Rattle.element.specs.declared.contents.Coded.{Coded}
-use Rattle.element.specs.declared.contents.Coded.TheVariants.{Badly, Well}
 use Rattle.element.specs.Head.{longest}
 use Rattle.element.specs.Framing.{Raw, identifier_of, direction_of, Split, cut, split, with_raw, split_of, Framed, not_framed, filters, identifiers, bare as bare_framed, framed_of}
 use Rattle.element.specs.Contents.{coded_of}
@@ -79,8 +78,8 @@ abbrev PairedWith : List Raw → Entries → Type 0
 PairedWith rs badly = Unit {0}
 PairedWith rs (coded es) = Paired rs es
 
-paired_with : (r : Raw) (rs : List Raw) (c : Coded) (E : Entries) → coded_of r ≡ c → PairedWith rs E → PairedWith (r ∷ rs) (with_entry (identifier_of r) c E)
-paired_with r rs Badly E q h = tt
+paired_with : (r : Raw) (rs : List Raw) (c : Option Filter) (E : Entries) → coded_of r ≡ c → PairedWith rs E → PairedWith (r ∷ rs) (with_entry (identifier_of r) c E)
+paired_with r rs None E q h = tt
 paired_with r rs (Well f) badly q h = tt
 paired_with r rs (Well f) (coded es) q h = (record { identifier = refl; decoded = q }, h)
 
@@ -102,8 +101,8 @@ unfolding entries_of
 none_badly before [] = refl
 none_badly before (r ∷ rs) = rw (none_badly (before ++ r ∷ []) rs) (go (coded_of r) (entries_of rs))
   where
-    go : (c : Coded) (E : Entries) → not (is_badly c) && is_coded E ≡ is_coded (with_entry (identifier_of r) c E)
-    go Badly E = refl
+    go : (c : Option Filter) (E : Entries) → not (is_badly c) && is_coded E ≡ is_coded (with_entry (identifier_of r) c E)
+    go None E = refl
     go (Well f) badly = refl
     go (Well f) (coded es) = refl
 
@@ -115,7 +114,7 @@ none_unfit : (before rs : List Raw) (es : List Entry) → Paired rs es → none_
 unfolding every
 none_unfit before [] [] h = refl
 none_unfit before (r ∷ rs) (e ∷ es) h =
-    ap₂ ◌&&◌ (ap (λ (c : Coded). not (is_unfit c)) h.0.decoded ∙ not-not (entry_fittable e)) (none_unfit (before ++ r ∷ []) rs es h.1)
+    ap₂ ◌&&◌ (ap (λ (c : Option Filter). not (is_unfit c)) h.0.decoded ∙ not-not (entry_fittable e)) (none_unfit (before ++ r ∷ []) rs es h.1)
 none_unfit before [] (e ∷ es) h = elim h [ ]
 none_unfit before (r ∷ rs) [] h = elim h [ ]
 
@@ -311,15 +310,15 @@ module _ (xs : List ℕ) (l : FilterList xs) (wrong : List Raw → Raw → Bool)
 badly_says : (before : List Raw) (r : Raw) → Says (badly_coded before r) (IsBadlyCoded before r)
 badly_says before r = go (coded_of r)
   where
-    go : (c : Coded) → Says (is_badly c) (c ≡ Badly)
-    go Badly = says_true refl
+    go : (c : Option Filter) → Says (is_badly c) (c ≡ None)
+    go None = says_true refl
     go (Well f) = record { to = λ e. absurd (false≢true e); from = λ q. absurd (let z : ◌≡◌ {A = ℕ} 0 1 = cc in omega arith) }
 
 unfit_says : (before : List Raw) (r : Raw) → RawOctets r → Says (fits_nothing before r) (FitsNoPacket before r)
 unfit_says before r octets = go (coded_of r) (raw_decoded r octets)
   where
-    go : (c : Coded) → DecodedAs c → Says (is_unfit c) ((f : Filter) × ((c ≡ Well f) × (SomePacketFits f → ⊥)))
-    go Badly d = record { to = λ e. absurd (false≢true e); from = λ h. absurd (let q = h.1.0 in let z : ◌≡◌ {A = ℕ} 0 1 = cc in omega arith) }
+    go : (c : Option Filter) → DecodedAs c → Says (is_unfit c) ((f : Filter) × ((c ≡ Well f) × (SomePacketFits f → ⊥)))
+    go None d = record { to = λ e. absurd (false≢true e); from = λ h. absurd (let q = h.1.0 in let z : ◌≡◌ {A = ℕ} 0 1 = cc in omega arith) }
     go (Well f) d =
         says_so (says_not (fittable_says f d.sound.in_range)) (λ n. (f, (refl, n)))
         (λ h s. let q = h.1.0 in let same : f ≡ h.0 = cc in h.1.1 (subst SomePacketFits same s))
@@ -342,7 +341,7 @@ repeats_says (b ∷ before) r =
     go false false b p = refl
 
 -- ---- Which of the three places is the value's
-badly_told : (before rs : List Raw) → Some (λ r. coded_of r ≡ Badly) rs → none_wrong badly_coded before rs ≡ false
+badly_told : (before rs : List Raw) → Some (λ r. coded_of r ≡ None) rs → none_wrong badly_coded before rs ≡ false
 badly_told before (r ∷ rs) (inl h) = rw h
 badly_told before (r ∷ rs) (inr h) = rw (badly_told (before ++ r ∷ []) rs h) (and-false (not (is_badly (coded_of r))))
 badly_told before [] x' = elim x' [ ]

@@ -1,4 +1,4 @@
--- Document 01's sample elements that concern the reader, and some limits: a single list under a single claim, computed. Then what is handed out step by step, and what calls
+-- Sample elements that concern the reader, and some limits: a single list under a single claim, computed. Then what is handed out step by step, and what calls
 -- are answered with by which an element arrives split.
 use mathlib.Core.Path.{◌≡◌, refl}
 use mathlib.Core.List.{List, [], ◌∷◌, ◌++◌}
@@ -79,7 +79,7 @@ examples : (
 unfolding same_under be_from be_bytes every is_in repeats excluded added built held well_coded empty_place valid_header agrees_transport agrees_network fits sample fittable no_filters no_marks length_of component_of contents_from contents_of split_of parameters rest_fits framed_by framed_of coded_of entries_of twice in_places marked read_value unframed_place earliest repeats_one filters_place place_of unplaced read_element contents_octets entry_octets entries_from entries_octets marks_from octets_of row_given marks_given given
 examples = refl
 
--- ---- Document 02, 6/14: causes and their places, each as 256 times the cause and the place
+-- ---- Causes and their places, each as 256 times the cause and the place
 abbrev breaks : List ℕ → ℕ
 breaks xs = placed_number (read_element xs).answer
 

@@ -1,58 +1,70 @@
 -- How a value is framed: the list of entries that it has after octet 1, and the count of that list.
-use mathlib.Core.Path.{◌≡◌, refl, sym, ap, ◌∙◌}
+use mathlib.Core.Path.{◌≡◌, refl, sym, ◌∙◌, subst}
 use mathlib.Core.Bool.{Bool, true, false, not, ◌&&◌}
 use mathlib.Core.List.{List, [], ◌∷◌}
-use Prim.Native.Nat.{ℕ, ◌+◌, ◌-◌, ◌≤◌}
+use Prim.Native.Nat.{ℕ, ◌+◌, ◌≤◌, ◌<◌}
 use native.Mathlib.Omega.{arith}
 use lib.Dec.{eqb, leb}
 use lib.ListN.{length, take, drop}
 use lib.Seq.{length-take-le}
-use borrow.Author.Tests.{leb-true}
+use borrow.Author.Tests.{leb-true, le-leb, ne_eqb}
+use Rattle.std.proofs.Common.{Option, None, Some, Result, Ok, Err}
 use Rattle.laws.specs.Says.{pick}
 use Rattle.element.specs.declared.answer.SetOperation.{SetOperation}
 use Rattle.element.specs.declared.answer.SetOperation.TheVariants.{Create, Add, Replace}
 use Rattle.element.specs.declared.answer.BareOperation.{BareOperation}
 use Rattle.element.specs.declared.answer.BareOperation.TheVariants.{DeleteTft, NoOperation}
-use Rattle.element.specs.declared.framing.Place.TheVariants.{Cut, At}
-use Rattle.element.specs.declared.framing.Frame.TheVariants.{NotFramed, Filters, Identifiers, Bare}
+use Rattle.element.specs.declared.framing.Frame.{Frame}
+use Rattle.element.specs.declared.framing.Frame.TheVariants.{Filters, Identifiers, Bare}
 use Rattle.element.specs.Head.{operation_in, extension_in, count_in, create, delete_tft, add, replace, delete_filters, no_operation}
 use Rattle.element.specs.Framing.{Raw, Split, cut, split, split_of, rest_fits, Framed, not_framed, filters, identifiers, bare, framed_split, framed_set, framed_identifiers, framed_bare, framed_by, framed_of}
-use Rattle.element.specs.Inner.Walk.{end_of, frame_of, whole}
+use Rattle.element.specs.Places.{left_by, left_place}
+use Rattle.element.specs.Inner.Walk.{frame_by, whole}
 use Rattle.element.proofs.Splitting.{rest_at, split_count}
 
--- ---- a list of filters, from the place where it ends
-pub set_cut : (operation : SetOperation) (e total : ℕ) (q : Split) → end_of total q ≡ Cut → frame_of (framed_split operation e q) ≡ NotFramed
-set_cut operation e total cut h = refl
-set_cut operation e total (split rs rest) h = let z : ◌≡◌ {A = ℕ} 0 1 = cc in absurd (omega arith)
+-- ---- a list of filters, by what is left after it
+module _ (operation : SetOperation) (e n : ℕ) (s : List ℕ) where
+  abbrev place : Option (List ℕ) → ℕ
+  place = left_place (1 + length s) e
 
--- the filters of a list that is all there, and what is left
-record Parts (n : ℕ) (s : List ℕ) (at : ℕ) : Type 0 where
-  raws : List Raw
-  rest : split_of n s ≡ split raws (drop at s)
-  within : at ≤ length s
+  abbrev pub set_frame : Result Frame ℕ
+  set_frame = frame_by (framed_set operation e n s) (pick (leb 1 n) (place (left_by (split_of n s))) 0)
 
-parts : (n : ℕ) (s : List ℕ) (at : ℕ) → end_of (length s) (split_of n s) ≡ At at → Parts n s at
-parts n s at h = go (split_of n s) refl h
+  abbrev frame_split : Split → Result Frame ℕ
+  frame_split q = frame_by (framed_split operation e q) (place (left_by q))
+
+  module _ (some : 0 < n) where
+    counted : set_frame ≡ frame_split (split_of n s)
+    counted = rw (ne_eqb n 0 (λ z. omega arith), le-leb 1 n (omega arith))
+
+    pub set_cut : left_by (split_of n s) ≡ None → Err (1 + length s) ≡ set_frame
+    set_cut h = sym (counted ∙ go (split_of n s) h)
+      where
+        go : (q : Split) → left_by q ≡ None → frame_split q ≡ Err (1 + length s)
+        go cut h = refl
+        go (split rs rest) h = absurd (let z : ◌≡◌ {A = ℕ} 0 1 = cc in omega arith)
+
+    module _ (rest : List ℕ) (h : left_by (split_of n s) ≡ Some rest) where
+      pub set_left : pick (rest_fits e rest) (Ok (Filters operation n)) (Err (place (Some rest))) ≡ set_frame
+      set_left = sym (counted ∙ go (split_of n s) refl h)
+        where
+          by : (b : Bool) (rs : List Raw) → length rs ≡ n
+              → frame_by (pick b (filters operation rs) not_framed) (place (Some rest)) ≡ pick b (Ok (Filters operation n)) (Err (place (Some rest)))
+          by true rs k = rw k
+          by false rs k = refl
+
+          go : (q : Split) → split_of n s ≡ q → left_by q ≡ Some rest → frame_split q ≡ pick (rest_fits e rest) (Ok (Filters operation n)) (Err (place (Some rest)))
+          go cut q h = absurd (let z : ◌≡◌ {A = ℕ} 0 1 = cc in omega arith)
+          go (split rs r) q h =
+              let same : r ≡ rest = cc in
+              rw same (by (rest_fits e rest) rs (split_count n s rs r q))
+
+pub left_short : (n : ℕ) (s rest : List ℕ) → left_by (split_of n s) ≡ Some rest → length rest ≤ length s
+left_short n s rest h = go (split_of n s) refl h
   where
-    go : (q : Split) → split_of n s ≡ q → end_of (length s) q ≡ At at → Parts n s at
-    go cut e h = let z : ◌≡◌ {A = ℕ} 0 1 = cc in absurd (omega arith)
-    go (split rs rest) e h =
-        let k : length s - length rest ≡ at = cc in
-        let p = rest_at n s rs rest e in
-        record { raws = rs; rest = e ∙ ap (split rs) (sym p.1 ∙ ap (λ (m : ℕ). drop m s) k); within = omega arith }
-
-module _ (n : ℕ) (s : List ℕ) (at : ℕ) (ends : end_of (length s) (split_of n s) ≡ At at) where
-  pub set_within : at ≤ length s
-  set_within = (parts n s at ends).within
-
-  module _ (operation : SetOperation) (e : ℕ) where
-    pub set_unfit : rest_fits e (drop at s) ≡ false → frame_of (framed_split operation e (split_of n s)) ≡ NotFramed
-    set_unfit h = rw ((parts n s at ends).rest, h)
-
-    pub set_fit : rest_fits e (drop at s) ≡ true → frame_of (framed_split operation e (split_of n s)) ≡ Filters operation n
-    set_fit h =
-        let p = parts n s at ends in
-        rw (p.rest, h) (ap (Filters operation) (split_count n s p.raws (drop at s) p.rest))
+    go : (q : Split) → split_of n s ≡ q → left_by q ≡ Some rest → length rest ≤ length s
+    go cut e h = absurd (let z : ◌≡◌ {A = ℕ} 0 1 = cc in omega arith)
+    go (split rs r) e h = let same : r ≡ rest = cc in rw (← same) (rest_at n s rs r e).0
 
 -- ---- the list that a framed value has
 pub record FilterList (s : List ℕ) (rs : List Raw) : Type 0 where
@@ -122,57 +134,44 @@ listed [] = tt
 listed (x ∷ xs) = by_listed x xs (operation_in x) (extension_in x) (count_in x)
 
 -- ---- and what its frame says of it
-pub record FiltersFramed (s : List ℕ) (operation : SetOperation) (n : ℕ) : Type 0 where
-  pub raws : List Raw
+abbrev FramedAs : Frame → Framed → Type 0
+FramedAs (Filters operation n) F = (rs : List Raw) × (F ≡ filters operation rs) × (length rs ≡ n)
+FramedAs (Identifiers n) F = (xs : List ℕ) × (F ≡ identifiers xs) × (length xs ≡ n)
+FramedAs (Bare operation) F = F ≡ bare operation
+
+abbrev pub FrameSays : Result Frame ℕ → Framed → ℕ → Type 0
+FrameSays (Ok frame) F place = FramedAs frame F
+FrameSays (Err p) F place = (F ≡ not_framed) × (p ≡ place)
+
+frame_says : (F : Framed) (place : ℕ) → FrameSays (frame_by F place) F place
+frame_says not_framed place = (refl, refl)
+frame_says (filters operation rs) place = (rs, refl, refl)
+frame_says (identifiers xs) place = (xs, refl, refl)
+frame_says (bare operation) place = refl
+
+pub framed_says : (F : Framed) (place : ℕ) (r : Result Frame ℕ) → r ≡ frame_by F place → FrameSays r F place
+framed_says F place r e = subst (λ (r : Result Frame ℕ). FrameSays r F place) (sym e) (frame_says F place)
+
+pub record FiltersFramed (s : List ℕ) (n : ℕ) (rs : List Raw) : Type 0 where
   pub rest : List ℕ
-  pub there : split_of n (drop 1 s) ≡ split raws rest
-  pub framed : framed_of s ≡ filters operation raws
+  pub there : split_of n (drop 1 s) ≡ split rs rest
 
-pub filters_whole : (s : List ℕ) (operation : SetOperation) (n : ℕ) → FiltersFramed s operation n → whole (split_of n (drop 1 s)) ≡ true
-filters_whole s operation n f = rw f.there
+pub filters_whole : (s : List ℕ) (n : ℕ) (rs : List Raw) → FiltersFramed s n rs → whole (split_of n (drop 1 s)) ≡ true
+filters_whole s n rs f = rw f.there
 
-pub record IdentifiersFramed (s : List ℕ) (n : ℕ) : Type 0 where
+pub record IdentifiersFramed (s : List ℕ) (n : ℕ) (xs : List ℕ) : Type 0 where
   pub few : 1 + n ≤ length s
-  pub framed : framed_of s ≡ identifiers (take n (drop 1 s))
+  pub first : take n (drop 1 s) ≡ xs
 
-module _ (s : List ℕ) where
-  pub not_framed_lem : frame_of (framed_of s) ≡ NotFramed → framed_of s ≡ not_framed
-  not_framed_lem = go (framed_of s)
-    where
-      go : (F : Framed) → frame_of F ≡ NotFramed → F ≡ not_framed
-      go not_framed h = refl
-      go (filters operation rs) h = let z : ◌≡◌ {A = ℕ} 0 1 = cc in absurd (omega arith)
-      go (identifiers xs) h = let z : ◌≡◌ {A = ℕ} 0 1 = cc in absurd (omega arith)
-      go (bare kind) h = let z : ◌≡◌ {A = ℕ} 0 1 = cc in absurd (omega arith)
+module _ (s : List ℕ) (n : ℕ) where
+  pub filters_framed : (rs : List Raw) → FilterList s rs → length rs ≡ n → FiltersFramed s n rs
+  filters_framed rs l k = record { rest = l.rest; there = rw k at l.there }
 
-  pub filters_framed : (operation : SetOperation) (n : ℕ) → frame_of (framed_of s) ≡ Filters operation n → FiltersFramed s operation n
-  filters_framed operation n = go (framed_of s) refl (listed s)
-    where
-      go : (F : Framed) → framed_of s ≡ F → Listed s F → frame_of F ≡ Filters operation n → FiltersFramed s operation n
-      go not_framed e l h = let z : ◌≡◌ {A = ℕ} 0 1 = cc in absurd (omega arith)
-      go (filters o rs) e l h =
-          let k : length rs ≡ n = cc in
-          let q : o ≡ operation = cc in
-          record { raws = rs; rest = l.rest; there = rw k at l.there; framed = rw q at e }
-      go (identifiers xs) e l h = let z : ◌≡◌ {A = ℕ} 0 1 = cc in absurd (omega arith)
-      go (bare o) e l h = let z : ◌≡◌ {A = ℕ} 0 1 = cc in absurd (omega arith)
+  pub identifiers_framed : (xs : List ℕ) → IdentifierList s xs → length xs ≡ n → IdentifiersFramed s n xs
+  identifiers_framed xs l k = record { few = rw k at l.few; first = rw k at l.first }
 
-  pub identifiers_framed : (n : ℕ) → frame_of (framed_of s) ≡ Identifiers n → IdentifiersFramed s n
-  identifiers_framed n = go (framed_of s) refl (listed s)
-    where
-      go : (F : Framed) → framed_of s ≡ F → Listed s F → frame_of F ≡ Identifiers n → IdentifiersFramed s n
-      go not_framed e l h = let z : ◌≡◌ {A = ℕ} 0 1 = cc in absurd (omega arith)
-      go (filters o rs) e l h = let z : ◌≡◌ {A = ℕ} 0 1 = cc in absurd (omega arith)
-      go (identifiers xs) e l h =
-          let k : length xs ≡ n = cc in
-          record { few = rw k at l.few; framed = e ∙ ap identifiers (sym (rw k at l.first)) }
-      go (bare o) e l h = let z : ◌≡◌ {A = ℕ} 0 1 = cc in absurd (omega arith)
-
-  pub bare_framed_lem : (operation : BareOperation) → frame_of (framed_of s) ≡ Bare operation → framed_of s ≡ bare operation
-  bare_framed_lem operation = go (framed_of s)
-    where
-      go : (F : Framed) → frame_of F ≡ Bare operation → F ≡ bare operation
-      go not_framed h = let z : ◌≡◌ {A = ℕ} 0 1 = cc in absurd (omega arith)
-      go (filters o rs) h = let z : ◌≡◌ {A = ℕ} 0 1 = cc in absurd (omega arith)
-      go (identifiers xs) h = let z : ◌≡◌ {A = ℕ} 0 1 = cc in absurd (omega arith)
-      go (bare o) h = let q : o ≡ operation = cc in ap bare q
+-- a value that is framed has octet 1
+pub filters_some : (s : List ℕ) (operation : SetOperation) (rs : List Raw) → framed_of s ≡ filters operation rs → 0 < length s
+unfolding framed_of
+filters_some [] operation rs e = absurd (let z : ◌≡◌ {A = ℕ} 0 1 = cc in omega arith)
+filters_some (x ∷ xs) operation rs e = omega arith

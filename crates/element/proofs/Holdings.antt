@@ -3,13 +3,13 @@
 use mathlib.Core.Path.{◌≡◌, refl, sym, ◌∙◌, ap}
 use mathlib.Core.Bool.{Bool, true, false}
 use mathlib.Core.List.{List, [], ◌∷◌, ◌++◌, append_assoc, append-nil}
-use Prim.Native.Nat.{ℕ, ◌+◌, ◌-◌, ◌≤◌, ◌<◌}
+use Prim.Native.Nat.{ℕ, suc, ◌+◌, ◌-◌, ◌≤◌, ◌<◌}
 use native.Mathlib.Omega.{arith}
-use native.Mathlib.Numerals.{add-one}
 use lib.Dec.{leb}
-use lib.ListN.{length, take, drop, get_or, set, replicate, length-append}
-use lib.Seq.{length-take-le, take-suc, take_all}
+use lib.ListN.{length, take, drop, replicate, length-append}
+use lib.Seq.{length-take-le, sets}
 use borrow.Author.Tests.{leb-true, eqb-true, le-leb, lt-leb}
+use Rattle.std.proofs.Common.{Ok, Err}
 use Rattle.laws.specs.Says.{pick, Says}
 use Rattle.laws.specs.Index.{pad}
 use Rattle.laws.specs.Lists.{every}
@@ -18,8 +18,8 @@ use Rattle.laws.proofs.Parts.{pad_none, pad_take, pad_rests, pad_is}
 use Rattle.laws.proofs.Says.{says_and, says_it, says_le, says_so, says_same}
 use Rattle.laws.proofs.Tests.{both}
 use Rattle.element.specs.declared.portions.Portions.{Portions}
-use Rattle.element.specs.declared.portions.PortionsAnswer.TheVariants.{Taken, NotTaken}
-use Rattle.element.specs.declared.portions.FinishAnswer.TheVariants.{Read, NotSound, Early}
+use Rattle.element.specs.declared.portions.PortionRefusal.TheVariants.{NotTaken}
+use Rattle.element.specs.declared.portions.Unfinished.TheVariants.{NotSound, Early}
 use Rattle.element.specs.declared.portions.Finished.{Finished}
 use Rattle.element.specs.Head.{longest}
 use Rattle.element.specs.Portions.{holding, fed_of, is_zero, sound, leaving, takes, feed_of, finished, finish_of, PortionsInRange}
@@ -68,36 +68,36 @@ takes_left p n left s e =
     says_same (says_so (says_le n left) (λ l. (s, omega arith)) (λ h. let l = h.1 in omega arith)) (takes_says p n)
 
 module _ (p : Portions) (portion : List ℕ) where
-  pub feed_not : takes p (length portion) ≡ false → feed_of p portion ≡ leaving p NotTaken
+  pub feed_not : takes p (length portion) ≡ false → feed_of p portion ≡ leaving p (Err NotTaken)
   unfolding feed_of
   feed_not t = rw t
 
-  pub feed_taken : takes p (length portion) ≡ true → feed_of p portion ≡ leaving (holding p.announced (fed_of p ++ portion)) Taken
+  pub feed_taken : takes p (length portion) ≡ true → feed_of p portion ≡ leaving (holding p.announced (fed_of p ++ portion)) (Ok tt)
   unfolding feed_of
   feed_taken t = rw t
 
 pub feed_fits : (n : ℕ) (xs portion : List ℕ) → length (xs ++ portion) ≤ n → n ≤ longest
-    → feed_of (holding n xs) portion ≡ leaving (holding n (xs ++ portion)) Taken
+    → feed_of (holding n xs) portion ≡ leaving (holding n (xs ++ portion)) (Ok tt)
 feed_fits n xs portion l s =
     let e = length-append xs portion in
     feed_taken (holding n xs) portion ((takes_says (holding n xs) (length portion)).from (holding_sound n xs (omega arith), omega arith))
-    ∙ ap (λ (ys : List ℕ). leaving (holding n (ys ++ portion)) Taken) (fed_holding n xs (omega arith))
+    ∙ ap (λ (ys : List ℕ). leaving (holding n (ys ++ portion)) (Ok tt)) (fed_holding n xs (omega arith))
 
 module _ (p : Portions) where
-  pub finish_unsound : sound p ≡ false → finish_of p ≡ finished NotSound []
+  pub finish_unsound : sound p ≡ false → finish_of p ≡ finished (Err NotSound) []
   unfolding finish_of
   finish_unsound s = rw s
 
-  pub finish_early : sound p ≡ true → p.fed < p.announced → finish_of p ≡ finished Early []
+  pub finish_early : sound p ≡ true → p.fed < p.announced → finish_of p ≡ finished (Err Early) []
   unfolding finish_of
   finish_early s l = rw (s, lt-leb p.announced p.fed l)
 
-  pub finish_read : sound p ≡ true → p.announced ≤ p.fed → finish_of p ≡ finished Read (fed_of p)
+  pub finish_read : sound p ≡ true → p.announced ≤ p.fed → finish_of p ≡ finished (Ok tt) (fed_of p)
   unfolding finish_of
   finish_read s l = rw (s, le-leb p.announced p.fed l)
 
   abbrev finish_by : Bool → Bool → Finished
-  finish_by b d = pick b (pick d (finished Read (fed_of p)) (finished Early [])) (finished NotSound [])
+  finish_by b d = pick b (pick d (finished (Ok tt) (fed_of p)) (finished (Err Early) [])) (finished (Err NotSound) [])
 
   read_by : (b d : Bool) → finish_by b d ≡ finished (finish_by b d).answer (take (read_end (finish_by b d).answer p.fed) p.octets)
   read_by true true = refl
@@ -109,28 +109,21 @@ module _ (p : Portions) where
   unfolding finish_of
   finish_by_lem = read_by (sound p) (leb p.announced p.fed)
 
--- ---- the loop that lays a portion: i octets of it are there
-module _ (p : Portions) (r : PortionsInRange p) (portion : List ℕ) where
-  abbrev pub laid : ℕ → Portions
-  laid i = state_of p.announced p.fed (pad longest (fed_of p ++ take i portion))
+-- ---- a portion laid after what was fed
+lay : (n : ℕ) (ys xs : List ℕ) → sets (pad n xs) (length xs) ys ≡ pad n (xs ++ ys)
+lay n [] xs = ap (pad n) (sym (append-nil xs))
+lay n (y ∷ ys) xs =
+    let e : length (xs ++ y ∷ []) ≡ suc (length xs) = simp length-append (omega arith) in
+    ap (λ (l : List ℕ). sets l (suc (length xs)) ys) (pad_push n xs y)
+    ∙ ap (λ (k : ℕ). sets (pad n (xs ++ y ∷ [])) k ys) (sym e)
+    ∙ lay n ys (xs ++ y ∷ [])
+    ∙ ap (pad n) (append_assoc xs (y ∷ []) ys)
 
-  pub laid_start : sound p ≡ true → p ≡ laid 0
-  laid_start s = sound_zero p r s ∙ ap (λ (xs : List ℕ). state_of p.announced p.fed (pad longest xs)) (sym (append-nil (fed_of p)))
-
-  more : (i : ℕ) → i < length portion → set (pad longest (fed_of p ++ take i portion)) (p.fed + i) (get_or portion i 0) ≡ pad longest (fed_of p ++ take (i + 1) portion)
-  more i l =
-      let xs = fed_of p in
-      let long = length-append xs (take i portion) ∙ ap (λ (m : ℕ). length xs + m) (length-take-le i portion (omega arith)) ∙ ap (λ (m : ℕ). m + i) (fed_long p r) in
-      ap (λ (m : ℕ). set (pad longest (xs ++ take i portion)) m (get_or portion i 0)) (sym long) ∙ pad_push longest (xs ++ take i portion) (get_or portion i 0)
-      ∙ ap (pad longest)
-      (append_assoc xs (take i portion) (get_or portion i 0 ∷ [])
-      ∙ ap (λ (zs : List ℕ). xs ++ zs) (sym (take-suc portion i 0 l) ∙ ap (λ (m : ℕ). take m portion) (sym (add-one i))))
-
-  pub laid_more : (i k : ℕ) (next : Portions) → i < length portion → k ≡ p.fed → next ≡ laid i
-      → state_of next.announced next.fed (set next.octets (k + i) (get_or portion i 0)) ≡ laid (i + 1)
-  laid_more i k next l e q = rw (e, q) (ap (state_of p.announced p.fed) (more i l))
-
-  pub laid_done : (i : ℕ) (next : Portions) → length portion ≤ i → next ≡ laid i
-      → state_of next.announced (p.fed + length portion) next.octets ≡ holding p.announced (fed_of p ++ portion)
-  laid_done i next l q =
-      rw (q, take_all i portion l, length-append (fed_of p) portion, fed_long p r) refl
+pub laid : (p : Portions) → PortionsInRange p → sound p ≡ true → (portion octets : List ℕ) → octets ≡ sets p.octets p.fed portion
+    → state_of p.announced (p.fed + length portion) octets ≡ holding p.announced (fed_of p ++ portion)
+laid p r s portion octets e =
+    let zero : p.octets ≡ pad longest (fed_of p) = ap (λ (q : Portions). q.octets) (sound_zero p r s) in
+    let long = fed_long p r in
+    let there : octets ≡ pad longest (fed_of p ++ portion) =
+    e ∙ ap (λ (l : List ℕ). sets l p.fed portion) zero ∙ ap (λ (k : ℕ). sets (pad longest (fed_of p)) k portion) (sym long) ∙ lay longest portion (fed_of p) in
+    rw (there, length-append (fed_of p) portion, long) refl

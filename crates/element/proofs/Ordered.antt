@@ -1,4 +1,5 @@
 -- What is written stands in order: filters in rising identifier, components in rising type.
+use Rattle.std.specs.Prelude.{None, Option, Some}
 use mathlib.Core.Path.{◌≡◌, refl}
 use mathlib.Core.Bool.{Bool, true, false, not, false≢true}
 use mathlib.Core.List.{List, [], ◌∷◌, ◌++◌, map, append-nil, append_assoc}
@@ -11,16 +12,9 @@ use Rattle.laws.proofs.Says.{picked}
 use Rattle.laws.proofs.Tests.{both}
 use Rattle.filter.specs.declared.component.RemoteAddress.{RemoteAddress}
 use Rattle.filter.specs.declared.component.RemoteAddress.TheVariants.{Absent as no_address, V4, V6}
-use Rattle.filter.specs.declared.component.Protocol.{Protocol}
-use Rattle.filter.specs.declared.component.Protocol.TheVariants.{Absent as no_protocol, Is as is_protocol}
 use Rattle.filter.specs.declared.component.Port.{Port}
 use Rattle.filter.specs.declared.component.Port.TheVariants.{Absent as no_port, Is as is_port, Range}
-use Rattle.filter.specs.declared.component.Index.{Index}
-use Rattle.filter.specs.declared.component.Index.TheVariants.{Absent as no_index, Is as is_index}
 use Rattle.filter.specs.declared.component.Class.{Class}
-use Rattle.filter.specs.declared.component.Class.TheVariants.{Absent as no_class, Masked}
-use Rattle.filter.specs.declared.component.Label.{Label}
-use Rattle.filter.specs.declared.component.Label.TheVariants.{Absent as no_label, Is as is_label}
 use Rattle.filter.specs.declared.component.Filter.{Filter}
 use Rattle.filter.specs.Component.{ipv4_remote_type, protocol_type, local_port_type, local_range_type, remote_port_type, remote_range_type, index_type, class_type, label_type}
 use Rattle.filter.specs.Coding.{held, empty_place}
@@ -82,10 +76,10 @@ remote_part no_address = none (omega arith)
 remote_part (V4 a mask) = one (pair_long 4 a mask) (omega arith) (omega arith)
 remote_part (V6 a mask) = one (addresses_long a mask) (omega arith) (omega arith)
 
-protocol_part : (p : Protocol) → Part protocol_type (protocol_octets p) local_port_type
+protocol_part : (p : Option ℕ) → Part protocol_type (protocol_octets p) local_port_type
 unfolding length_of
-protocol_part no_protocol = none (omega arith)
-protocol_part (is_protocol x) = one (length_be 1 x) (omega arith) (omega arith)
+protocol_part None = none (omega arith)
+protocol_part (Some x) = one (length_be 1 x) (omega arith) (omega arith)
 
 -- a port or a range, of types t and u
 port_part : (t u high : ℕ) (p : Port) → length_of t ≡ 2 → length_of u ≡ 4 → t < u → u < high → Part t (port_octets t u p) high
@@ -93,20 +87,20 @@ port_part t u high no_port two four l m = none (omega arith)
 port_part t u high (is_port x) two four l m = one (rw two (length_be 2 x)) (omega arith) (omega arith)
 port_part t u high (Range low top) two four l m = one (rw four (pair_long 2 low top)) (omega arith) (omega arith)
 
-index_part : (i : Index) → Part index_type (index_octets i) class_type
+index_part : (i : Option ℕ) → Part index_type (index_octets i) class_type
 unfolding length_of
-index_part no_index = none (omega arith)
-index_part (is_index x) = one (length_be 4 x) (omega arith) (omega arith)
+index_part None = none (omega arith)
+index_part (Some x) = one (length_be 4 x) (omega arith) (omega arith)
 
-class_part : (c : Class) → Part class_type (class_octets c) label_type
+class_part : (c : Option Class) → Part class_type (class_octets c) label_type
 unfolding length_of
-class_part no_class = none (omega arith)
-class_part (Masked x mask) = one (pair_long 1 x mask) (omega arith) (omega arith)
+class_part None = none (omega arith)
+class_part (Some m) = one (pair_long 1 m.class m.mask) (omega arith) (omega arith)
 
-label_part : (b : Label) → Part label_type (label_octets b) 0x100
+label_part : (b : Option ℕ) → Part label_type (label_octets b) 0x100
 unfolding length_of
-label_part no_label = none (omega arith)
-label_part (is_label x) = one (length_be 3 x) (omega arith) (omega arith)
+label_part None = none (omega arith)
+label_part (Some x) = one (length_be 3 x) (omega arith) (omega arith)
 
 contents_part : (f : Filter) → Part ipv4_remote_type (contents_octets f) 0x100
 unfolding contents_octets length_of

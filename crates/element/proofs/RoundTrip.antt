@@ -10,6 +10,7 @@ use lib.Dec.{leb}
 use lib.ListN.{length, replicate, length-append}
 use lib.Seq.{take-append_seam, drop-append_seam, take-length, drop-length, append_snoc}
 use borrow.Author.Tests.{le-leb, leb-true, ne_eqb, not-true}
+use Rattle.std.proofs.Common.{Some}
 use Rattle.laws.specs.Lists.{All, Each, every, is_in, repeats}
 use Rattle.laws.proofs.Lists.{all_append, all_alike, snoc_long, snoc_set}
 use Rattle.laws.proofs.Tests.{both, either}
@@ -26,7 +27,6 @@ use Rattle.element.specs.declared.answer.BareOperation.TheVariants.{DeleteTft, N
 use Rattle.element.specs.declared.answer.Answer.{Answer}
 use Rattle.element.specs.declared.answer.Answer.TheVariants.{Filters, Identifiers, Bare, Refused}
 use Rattle.element.specs.declared.answer.Element.{Element}
-use Rattle.element.specs.declared.contents.Coded.TheVariants.{Well}
 use Rattle.filter.specs.Build.{empty_filter}
 use Rattle.element.specs.Read.{no_filters, no_marks, without_sets, Entry, precedence_of, entry_fittable, coded, entries_of, twice, in_places, marked, read_value}
 use Rattle.element.specs.Contents.{coded_of}
@@ -63,7 +63,7 @@ split_round (e ∷ es) =
       split_round es,
     )
 
-coded_round : (e : Entry) → Good e → coded_of (raw_of e) ≡ Well e.filter
+coded_round : (e : Entry) → Good e → coded_of (raw_of e) ≡ Some e.filter
 unfolding coded_of
 coded_round e g =
     let low = g.well.direction in

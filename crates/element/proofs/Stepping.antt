@@ -7,6 +7,7 @@ use native.Mathlib.Omega.{arith}
 use lib.Dec.{leb}
 use lib.ListN.{length, get_or, set}
 use borrow.Author.Tests.{eq-eqb, ne_eqb}
+use Rattle.std.proofs.Common.{None, Option, Some}
 use Rattle.laws.specs.Says.{pick}
 use Rattle.laws.specs.Lists.{All, every, fold}
 use Rattle.filter.specs.declared.component.Filter.{Filter as PacketFilter}
@@ -16,8 +17,6 @@ use Rattle.element.specs.declared.answer.Refusal.{Refusal}
 use Rattle.element.specs.declared.answer.Answer.{Answer}
 use Rattle.element.specs.declared.answer.Answer.TheVariants.{Filters, Identifiers, Bare, Refused as refused_with}
 use Rattle.element.specs.declared.answer.Element.{Element}
-use Rattle.element.specs.declared.contents.Coded.{Coded}
-use Rattle.element.specs.declared.contents.Coded.TheVariants.{Badly, Well}
 use Rattle.element.specs.declared.entries.Handed.{Handed}
 use Rattle.element.specs.declared.entries.Handed.TheVariants.{Filter, Identifier, Refused, End}
 use Rattle.element.specs.Numbers.{number_of, verdict_on, handed_number}
@@ -98,10 +97,10 @@ filters_handed at (r ∷ rs) = go (coded_of r) (entries_of rs) (filters_handed (
     hs : List Handed
     hs = map (λ p. p.entry) (located_filters (located_filter at r).after rs)
 
-    go : (c : Coded) (es : DecodedEntries) → HandedAs hs es → HandedAs (coded_filter (identifier_of r) c ∷ hs) (with_entry (identifier_of r) c es)
-    go Badly es h = tt
-    go (Well f) badly h = tt
-    go (Well f) (coded es) h = ap (λ (x : List Handed). Filter (identifier_of r) f ∷ x) h
+    go : (c : Option PacketFilter) (es : DecodedEntries) → HandedAs hs es → HandedAs (coded_filter (identifier_of r) c ∷ hs) (with_entry (identifier_of r) c es)
+    go None es h = tt
+    go (Some f) badly h = tt
+    go (Some f) (coded es) h = ap (λ (x : List Handed). Filter (identifier_of r) f ∷ x) h
 
 identifiers_handed : (at : ℕ) (xs : List ℕ) → map (λ p. p.entry) (located_identifiers at xs) ≡ map (λ x. Identifier (identifier_in x)) xs
 unfolding located_identifiers

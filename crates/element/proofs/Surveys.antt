@@ -1,12 +1,12 @@
 -- What a survey of a row tells: how many places hold a filter, whether the reader could give each, and whether two precedences are one.
 use mathlib.Core.Path.{◌≡◌, refl, sym, ap, ◌∙◌}
-use mathlib.Core.Bool.{Bool, true, false, not, ◌&&◌, and_assoc, and-true}
+use mathlib.Core.Bool.{Bool, true, false, not, ◌&&◌, ◌||◌, and_assoc, and-true}
 use mathlib.Core.List.{List, [], ◌∷◌, map}
-use Prim.Native.Nat.{ℕ, suc, ◌+◌, ◌≤◌, ◌<◌}
+use Prim.Native.Nat.{ℕ, suc, ◌+◌, ◌<◌}
 use native.Mathlib.Nat.{zero-add}
 use native.Mathlib.Omega.{arith}
 use lib.Dec.{leb}
-use lib.ListN.{length}
+use lib.ListN.{length, get_or, set}
 use Rattle.laws.specs.Says.{pick}
 use Rattle.laws.specs.Lists.{All, Each, every, fold, repeats}
 use Rattle.laws.proofs.Marks.{again, is_marked, with_mark, bools_repeat}
@@ -14,20 +14,41 @@ use Rattle.filter.specs.declared.component.Filter.{Filter}
 use Rattle.filter.specs.Coding.{held}
 use Rattle.filter.specs.Ranges.{FilterInRange}
 use Rattle.filter.specs.Fittable.{place_fine}
-use Rattle.element.specs.declared.survey.Survey.{Survey}
 use Rattle.filter.specs.Sizes.{place_count, precedence_count}
 use Rattle.element.specs.Read.{Entry, precedence_of}
 use Rattle.element.specs.Write.{entries_from, row_given}
-use Rattle.element.specs.Inner.Walk.{no_precedences, survey_start, surveyed_by, surveyed}
+use Rattle.element.specs.Inner.Walk.{no_precedences}
 
--- a place adds one at most
-pub survey_more : (st : Survey) (f : Filter) → (surveyed st f).count ≤ st.count + 1
+-- of the places so far: how many hold a filter, whether the reader could give each, whether a precedence came again, and the precedences seen
+pub record Survey : Type 0 where
+  pub count : ℕ
+  pub given : Bool
+  pub repeated : Bool
+  pub precedences : List Bool
+
+abbrev pub survey_start : Survey
+survey_start = record { count = 0; given = true; repeated = false; precedences = no_precedences }
+
+abbrev pub surveyed_by : Bool → Survey → Filter → Survey
+surveyed_by true st f =
+    record {
+      count = st.count + 1;
+      given = st.given && place_fine f;
+      repeated = st.repeated || get_or st.precedences f.precedence false;
+      precedences = set st.precedences f.precedence true;
+    }
+surveyed_by false st f = record { count = st.count; given = st.given && place_fine f; repeated = st.repeated; precedences = st.precedences }
+
+pub surveyed : Survey → Filter → Survey
+surveyed st f = surveyed_by (held f) st f
+
+pub surveyed_held : (st : Survey) (f : Filter) → held f ≡ true → surveyed st f ≡ surveyed_by true st f
 unfolding surveyed
-survey_more st f = go (held f)
-  where
-    go : (b : Bool) → (surveyed_by b st f).count ≤ st.count + 1
-    go true = omega arith
-    go false = omega arith
+surveyed_held st f e = rw e
+
+pub surveyed_not : (st : Survey) (f : Filter) → held f ≡ false → surveyed st f ≡ surveyed_by false st f
+unfolding surveyed
+surveyed_not st f e = rw e
 
 survey_count : (row : List Filter) (i : ℕ) (st : Survey) → (fold surveyed st row).count ≡ st.count + length (entries_from i row)
 unfolding fold surveyed entries_from

@@ -22,8 +22,7 @@ use Rattle.element.specs.declared.answer.Cause.{Cause}
 use Rattle.element.specs.declared.answer.Cause.TheVariants.{Operation, Semantics, Coding}
 use Rattle.element.specs.declared.write.Unwritten.{Unwritten}
 use Rattle.element.specs.declared.write.Unwritten.TheVariants.{NotGiven, TooLong, NoRoom}
-use Rattle.element.specs.declared.write.Written.{Written}
-use Rattle.element.specs.declared.write.Written.TheVariants.{Wrote, Refused as refused_to}
+use Rattle.std.proofs.Common.{Result, Ok, Err}
 use Rattle.element.specs.Numbers.{verdict_on, number_of, placed_number, written_number}
 use Rattle.element.specs.Head.{longest, operation_of, create, extension_in, count_in}
 use Rattle.element.specs.Framing.{Raw, Split, cut, split, split_of, rest_fits, not_framed, filters, framed_split, framed_set, framed_by, framed_of}
@@ -59,19 +58,19 @@ given_says e r =
 
 -- ---- what the writer does, and where
 -- a number other than 0 is of one refusal
-same_refusal : (w : Written) (u : Unwritten) → written_number w ≡ written_number (refused_to u) → w ≡ refused_to u
-same_refusal (Wrote n) NotGiven q = absurd (omega arith)
-same_refusal (Wrote n) TooLong q = absurd (omega arith)
-same_refusal (Wrote n) NoRoom q = absurd (omega arith)
-same_refusal (refused_to NotGiven) NotGiven q = refl
-same_refusal (refused_to NotGiven) TooLong q = absurd (omega arith)
-same_refusal (refused_to NotGiven) NoRoom q = absurd (omega arith)
-same_refusal (refused_to TooLong) NotGiven q = absurd (omega arith)
-same_refusal (refused_to TooLong) TooLong q = refl
-same_refusal (refused_to TooLong) NoRoom q = absurd (omega arith)
-same_refusal (refused_to NoRoom) NotGiven q = absurd (omega arith)
-same_refusal (refused_to NoRoom) TooLong q = absurd (omega arith)
-same_refusal (refused_to NoRoom) NoRoom q = refl
+same_refusal : (w : Result ℕ Unwritten) (u : Unwritten) → written_number w ≡ written_number (Err u) → w ≡ Err u
+same_refusal (Ok n) NotGiven q = absurd (omega arith)
+same_refusal (Ok n) TooLong q = absurd (omega arith)
+same_refusal (Ok n) NoRoom q = absurd (omega arith)
+same_refusal (Err NotGiven) NotGiven q = refl
+same_refusal (Err NotGiven) TooLong q = absurd (omega arith)
+same_refusal (Err NotGiven) NoRoom q = absurd (omega arith)
+same_refusal (Err TooLong) NotGiven q = absurd (omega arith)
+same_refusal (Err TooLong) TooLong q = refl
+same_refusal (Err TooLong) NoRoom q = absurd (omega arith)
+same_refusal (Err NoRoom) NotGiven q = absurd (omega arith)
+same_refusal (Err NoRoom) TooLong q = absurd (omega arith)
+same_refusal (Err NoRoom) NoRoom q = refl
 
 module _ (e : Element) (r : ElementInRange e) (buffer : List ℕ) where
   abbrev size : ℕ
@@ -89,9 +88,9 @@ module _ (e : Element) (r : ElementInRange e) (buffer : List ℕ) where
   Refuses TooLong = ReadsAs e × (longest < size)
   Refuses NoRoom = (ReadsAs e × (size ≤ longest)) × (length buffer < size)
 
-  abbrev Why : Written → List ℕ → Type 0
-  Why (Wrote n) after = Put n after
-  Why (refused_to u) after = Refuses u
+  abbrev Why : Result ℕ Unwritten → List ℕ → Type 0
+  Why (Ok n) after = Put n after
+  Why (Err u) after = Refuses u
 
   why_by : (b c d : Bool) → given e ≡ b → leb size longest ≡ c → leb size (length buffer) ≡ d
       → Why (written_by b c d e buffer).written (written_by b c d e buffer).buffer
@@ -101,20 +100,20 @@ module _ (e : Element) (r : ElementInRange e) (buffer : List ℕ) where
   why_by true true true g s f =
       record { taken = g; short = leb-true size longest s; octets = take_at (octets_of e) (drop size buffer) size refl }
 
-  why : (w : Written) → (write_of e buffer).written ≡ w → Why w (write_of e buffer).buffer
+  why : (w : Result ℕ Unwritten) → (write_of e buffer).written ≡ w → Why w (write_of e buffer).buffer
   unfolding write_of
   why w q =
-      subst (λ (w : Written). Why w (write_of e buffer).buffer) q
+      subst (λ (w : Result ℕ Unwritten). Why w (write_of e buffer).buffer) q
       (why_by (given e) (leb size longest) (leb size (length buffer)) refl refl refl)
 
-  refuses : (u : Unwritten) → Refuses u → (write_of e buffer).written ≡ refused_to u
+  refuses : (u : Unwritten) → Refuses u → (write_of e buffer).written ≡ Err u
   unfolding write_of
   refuses NotGiven h = rw (says_no (given_says e r) h)
   refuses TooLong h = rw ((given_says e r).from h.0, lt-leb size longest h.1)
   refuses NoRoom h = rw ((given_says e r).from h.0.0, le-leb size longest h.0.1, lt-leb size (length buffer) h.1)
 
-  refusal_says : (u : Unwritten) → (written_number (write_of e buffer).written ≡ written_number (refused_to u)) ↔ Refuses u
-  refusal_says u = (λ q. why (refused_to u) (same_refusal (write_of e buffer).written u q), λ h. ap written_number (refuses u h))
+  refusal_says : (u : Unwritten) → (written_number (write_of e buffer).written ≡ written_number (Err u)) ↔ Refuses u
+  refusal_says u = (λ q. why (Err u) (same_refusal (write_of e buffer).written u q), λ h. ap written_number (refuses u h))
 
   -- ---- "Writer: 10, 11, 9": each number is given exactly where its test refuses, and those before it do not
   pub writer_10 : (written_number (write_of e buffer).written ≡ 10) ↔ (ReadsAs e → ⊥)
@@ -127,17 +126,17 @@ module _ (e : Element) (r : ElementInRange e) (buffer : List ℕ) where
   writer_9 = refusal_says NoRoom
 
   -- ---- "an operation written and read again is the same", for every operation that the writer accepts
-  pub written_reads : (n : ℕ) → (write_of e buffer).written ≡ Wrote n → read_element (take n (write_of e buffer).buffer) ≡ e
+  pub written_reads : (n : ℕ) → (write_of e buffer).written ≡ Ok n → read_element (take n (write_of e buffer).buffer) ≡ e
   unfolding read_element unplaced given
   written_reads n w =
-      let put = why (Wrote n) w in
+      let put = why (Ok n) w in
       rw (put.octets, le-leb size longest put.short, round e r put.taken)
       (placed_same (place_of (octets_of e)) e (operation e.answer e.filters e.marks put.taken))
 
   -- ---- "The writer puts filters in rising identifier and components in rising type."
-  pub writer_order : (n : ℕ) → (write_of e buffer).written ≡ Wrote n → InOrder (framed_of (take n (write_of e buffer).buffer))
+  pub writer_order : (n : ℕ) → (write_of e buffer).written ≡ Ok n → InOrder (framed_of (take n (write_of e buffer).buffer))
   writer_order n w =
-      let put = why (Wrote n) w in
+      let put = why (Ok n) w in
       rw put.octets (in_order_lem e r put.taken)
 
 -- ---- the reader gives each of its numbers exactly where a step with that number refuses the value, and those before it do not
@@ -195,7 +194,7 @@ create_reads xs h = placed_create (place_of xs) (unplaced xs).answer (go (leb (l
     go true = value_create xs h
     go false = a_cause Operation
 
--- ---- Document 02, 6/14: where a refused value broke
+-- ---- Where a refused value broke
 module _ (xs : List ℕ) where
   place_octet : place_of xs ≤ longest
   unfolding place_of

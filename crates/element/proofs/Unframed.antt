@@ -1,4 +1,4 @@
--- Where a value that is not framed breaks: by the end of its list of entries, and as document 02 says it.
+-- Where a value that is not framed breaks.
 use mathlib.Core.Path.{◌≡◌, refl, sym, ap, ◌∙◌}
 use mathlib.Core.Bool.{Bool, true, false, not, ◌&&◌, ◌||◌, false≢true}
 use mathlib.Core.List.{List, [], ◌∷◌}
@@ -7,9 +7,10 @@ use Prim.Native.Nat.{ℕ, zero, suc, ◌+◌, ◌-◌, ◌≤◌, ◌<◌}
 use native.Mathlib.Nat.{zero-add}
 use native.Mathlib.Omega.{arith}
 use lib.Dec.{eqb, leb}
-use lib.ListN.{length, take, drop, get_or, length-take, length-drop, drop_of_length-le}
+use lib.ListN.{length, take, drop, length-take, length-drop, drop_of_length-le}
 use lib.Seq.{length-take-le}
 use borrow.Author.Tests.{le-leb, lt-leb, leb-true, leb-false, eqb-true, eqb-false, ne_eqb}
+use Rattle.std.proofs.Common.{Option, None, Some}
 use Rattle.laws.specs.Says.{pick, Says}
 use Rattle.laws.proofs.Says.{which, by_test, picked, says_eq, says_le, says_or, says_no, says_ne}
 use Rattle.laws.proofs.Tests.{and_false}
@@ -18,36 +19,33 @@ use Rattle.element.specs.declared.answer.SetOperation.{SetOperation}
 use Rattle.element.specs.declared.answer.SetOperation.TheVariants.{Create, Add, Replace}
 use Rattle.element.specs.declared.answer.BareOperation.{BareOperation}
 use Rattle.element.specs.declared.answer.BareOperation.TheVariants.{DeleteTft, NoOperation}
-use Rattle.element.specs.declared.framing.Place.{Place}
-use Rattle.element.specs.declared.framing.Place.TheVariants.{Cut, At}
 use Rattle.element.specs.Head.{longest, operation_in, extension_in, count_in, create, delete_tft, add, replace, delete_filters, no_operation}
 use Rattle.element.specs.Framing.{Raw, Split, cut, split, with_raw, split_of, rest_fits, Framed, not_framed, filters, identifiers, bare, framed_split, framed_set, framed_identifiers, framed_bare, framed_by, framed_of}
-use Rattle.element.specs.Places.{brings_filters, is_bare, count_fits, Left, past, left, left_by, left_after, left_place, unframed_place, framed_place, place_of}
-use Rattle.element.specs.Inner.Walk.{end_left, unframed_within}
+use Rattle.element.specs.Places.{brings_filters, is_bare, count_fits, left_by, left_after, left_place, unframed_place, framed_place, place_of}
 use Rattle.element.specs.Meaning.{OperationWrong, HasEntries, HasNone, CountWrong, HeadWrong, BreaksAt, at_head, at_end, at_left, TooLongOrUnframed}
 
 -- ---- a list of entries in a front of the octets: the front up to what is left after the list has the list, and no more; where an entry is past the end, it is past the
 -- end of every front
-abbrev Fronts : (List ℕ → Left) → List ℕ → Left → Type 0
-Fronts after xs past = (m : ℕ) → after (take m xs) ≡ past
-Fronts after xs (left rest) = (length rest ≤ length xs) × (after (take (length xs - length rest) xs) ≡ left [])
+abbrev Fronts : (List ℕ → Option (List ℕ)) → List ℕ → Option (List ℕ) → Type 0
+Fronts after xs None = (m : ℕ) → after (take m xs) ≡ None
+Fronts after xs (Some rest) = (length rest ≤ length xs) × (after (take (length xs - length rest) xs) ≡ Some [])
 
 -- .. of filters
-abbrev after_filters : ℕ → List ℕ → Left
+abbrev after_filters : ℕ → List ℕ → Option (List ℕ)
 after_filters n xs = left_by (split_of n xs)
 
 after_raw_lem : (r : Raw) (q : Split) → left_by (with_raw r q) ≡ left_by q
 after_raw_lem r cut = refl
 after_raw_lem r (split rs rest) = refl
 
-short_past : (n : ℕ) (xs : List ℕ) → length xs < 3 → after_filters (suc n) xs ≡ past
+short_past : (n : ℕ) (xs : List ℕ) → length xs < 3 → after_filters (suc n) xs ≡ None
 unfolding split_of
 short_past n [] h = refl
 short_past n (a ∷ []) h = refl
 short_past n (a ∷ p ∷ []) h = refl
 short_past n (a ∷ p ∷ l ∷ xs) h = absurd (omega arith)
 
-short_fronts : (n : ℕ) (xs : List ℕ) → length xs < 3 → (m : ℕ) → after_filters (suc n) (take m xs) ≡ past
+short_fronts : (n : ℕ) (xs : List ℕ) → length xs < 3 → (m : ℕ) → after_filters (suc n) (take m xs) ≡ None
 short_fronts n xs h m = let long = length-take m xs in short_past n (take m xs) (omega arith)
 
 module _ (n a p l : ℕ) where
@@ -55,7 +53,7 @@ module _ (n a p l : ℕ) where
   unfolding split_of
   there xs h = rw (le-leb l (length xs) h) (after_raw_lem _ (split_of n (drop l xs)))
 
-  not_there : (xs : List ℕ) → length xs < l → after_filters (suc n) (a ∷ p ∷ l ∷ xs) ≡ past
+  not_there : (xs : List ℕ) → length xs < l → after_filters (suc n) (a ∷ p ∷ l ∷ xs) ≡ None
   unfolding split_of
   not_there xs h = rw (lt-leb l (length xs) h)
 
@@ -66,17 +64,17 @@ module _ (n a p l : ℕ) where
         let long = length-take k xs in
         there (take k xs) h ∙ rw (part_skip xs 0 k l (omega arith), zero-add l)
 
-    fronts_past : ((k : ℕ) → l ≤ length (take k xs) → after_filters (suc n) (a ∷ p ∷ l ∷ take k xs) ≡ past)
-        → (m : ℕ) → after_filters (suc n) (take m (a ∷ p ∷ l ∷ xs)) ≡ past
+    fronts_past : ((k : ℕ) → l ≤ length (take k xs) → after_filters (suc n) (a ∷ p ∷ l ∷ take k xs) ≡ None)
+        → (m : ℕ) → after_filters (suc n) (take m (a ∷ p ∷ l ∷ xs)) ≡ None
     fronts_past f zero = short_past n [] (omega arith)
     fronts_past f (suc zero) = short_past n (a ∷ []) (omega arith)
     fronts_past f (suc (suc zero)) = short_past n (a ∷ p ∷ []) (omega arith)
     fronts_past f (suc (suc (suc k))) =
         ⊎_elim (λ t. f k (leb-true l (length (take k xs)) t)) (λ u. not_there (take k xs) (leb-false l (length (take k xs)) u)) (which (leb l (length (take k xs))))
 
-    fronts_more : l ≤ length xs → (q : Left) → Fronts (after_filters n) (drop l xs) q → Fronts (after_filters (suc n)) (a ∷ p ∷ l ∷ xs) q
-    fronts_more h past f = fronts_past (λ k g. front_there k g ∙ f (k - l))
-    fronts_more h (left rest) f =
+    fronts_more : l ≤ length xs → (q : Option (List ℕ)) → Fronts (after_filters n) (drop l xs) q → Fronts (after_filters (suc n)) (a ∷ p ∷ l ∷ xs) q
+    fronts_more h None f = fronts_past (λ k g. front_there k g ∙ f (k - l))
+    fronts_more h (Some rest) f =
         let m = length xs - length rest in
         let long = length-drop l xs in
         let within = f.0 in
@@ -100,12 +98,12 @@ filters_fronts (suc n) (a ∷ p ∷ l ∷ xs) =
     (which (leb l (length xs)))
 
 -- .. and of octets
-abbrev after_octets : ℕ → List ℕ → Left
-after_octets n xs = pick (leb n (length xs)) (left (drop n xs)) past
+abbrev after_octets : ℕ → List ℕ → Option (List ℕ)
+after_octets n xs = pick (leb n (length xs)) (Some (drop n xs)) None
 
 octets_fronts : (n : ℕ) (xs : List ℕ) → Fronts (after_octets n) xs (after_octets n xs)
 octets_fronts n xs =
-    by_test (Fronts (after_octets n) xs) (leb n (length xs)) (left (drop n xs)) past
+    by_test (Fronts (after_octets n) xs) (leb n (length xs)) (Some (drop n xs)) None
     (λ t.
     let h = leb-true n (length xs) t in
     let long = length-drop n xs in
@@ -125,41 +123,10 @@ module _ (operation n : ℕ) (xs : List ℕ) where
       go true = filters_fronts n xs
       go false = octets_fronts n xs
 
--- ---- the place by the end of the list, as the code finds it
-pub octets_end : (n : ℕ) (s : List ℕ) → n ≤ length s → At n ≡ end_left (length s) (left (drop n s))
-octets_end n s h =
-    let k : length s - (length s - n) ≡ n = omega arith in
-    rw (length-drop, k)
-
-pub end_within : (total : ℕ) (l : Left) (at : ℕ) → end_left total l ≡ At at → at ≤ total
-end_within total past at h = let z : ◌≡◌ {A = ℕ} 0 1 = cc in absurd (omega arith)
-end_within total (left rest) at h = let k : total - length rest ≡ at = cc in omega arith
-
-abbrev pub place_by : ℕ → ℕ → Place → ℕ
-place_by total e Cut = total
-place_by total e (At at) = pick (eqb e 0) (1 + at) total
-
-by_end : (after : List ℕ → Left) (xs : List ℕ) (e : ℕ) (l : Left) → Fronts after xs l → left_place (1 + length xs) e l ≡ place_by (1 + length xs) e (end_left (length xs) l)
-by_end after xs e past f = refl
-by_end after xs e (left rest) f = let k : 1 + length xs - length rest ≡ 1 + (length xs - length rest) = omega (arith, f.0) in rw k
-
-pub place_nothing : (s : List ℕ) → length s ≡ 0 → unframed_within s ≡ 0
-unfolding unframed_place
-place_nothing [] h = refl
-place_nothing (x ∷ xs) h = absurd (omega arith)
-
-pub place_something : (s : List ℕ) → 0 < length s → length s ≤ longest → (operation n : ℕ) → operation ≡ operation_in (get_or s 0 0) → n ≡ count_in (get_or s 0 0)
-    → unframed_within s ≡ pick (count_fits operation n) (place_by (length s) (extension_in (get_or s 0 0)) (end_left (length (drop 1 s)) (left_after operation n (drop 1 s)))) 0
-unfolding unframed_place
-place_something [] some short operation n ho hn = absurd (omega arith)
-place_something (x ∷ xs) some short operation n ho hn =
-    let long : length (x ∷ xs) ≡ 1 + length xs = omega arith in
-    rw (le-leb (length (x ∷ xs)) longest short, ho, hn, long, by_end (left_after (operation_in x) (count_in x)) xs (extension_in x) (left_after (operation_in x) (count_in x) xs) (fronts (operation_in x) (count_in x) xs))
-
 -- ---- how far the place goes
-left_within : (total e : ℕ) (l : Left) → left_place total e l ≤ total
-left_within total e past = omega arith
-left_within total e (left rest) = picked (λ (p : ℕ). p ≤ total) (eqb e 0) (total - length rest) total (omega arith) (omega arith)
+left_within : (total e : ℕ) (l : Option (List ℕ)) → left_place total e l ≤ total
+left_within total e None = omega arith
+left_within total e (Some rest) = picked (λ (p : ℕ). p ≤ total) (eqb e 0) (total - length rest) total (omega arith) (omega arith)
 
 pub unframed_within_lem : (s : List ℕ) → unframed_place s ≤ length s
 unfolding unframed_place
@@ -167,11 +134,6 @@ unframed_within_lem [] = omega arith
 unframed_within_lem (x ∷ xs) =
     picked (λ (p : ℕ). p ≤ length (x ∷ xs)) (count_fits (operation_in x) (count_in x)) _ 0
     (let h = left_within (1 + length xs) (extension_in x) (left_after (operation_in x) (count_in x) xs) in omega arith) (omega arith)
-
-pub unframed_small : (s : List ℕ) → unframed_within s < 256
-unframed_small s =
-    by_test (λ (p : ℕ). p < 256) (leb (length s) longest) (unframed_place s) 0
-    (λ h. let short = leb-true (length s) longest h in let within = unframed_within_lem s in omega arith) (λ h. omega arith)
 
 -- ---- a head that is right, as a test and as a type
 abbrev Fault : ℕ → ℕ → Type 0
@@ -247,9 +209,9 @@ is_framed (filters operation rs) = true
 is_framed (identifiers ids) = true
 is_framed (bare kind) = true
 
-abbrev fits_left : ℕ → Left → Bool
-fits_left e past = false
-fits_left e (left rest) = rest_fits e rest
+abbrev fits_left : ℕ → Option (List ℕ) → Bool
+fits_left e None = false
+fits_left e (Some rest) = rest_fits e rest
 
 framed_pick : (b : Bool) (F : Framed) → is_framed F ≡ true → is_framed (pick b F not_framed) ≡ b
 framed_pick true F h = h
@@ -272,7 +234,7 @@ module _ (e n : ℕ) (xs : List ℕ) where
   identifiers_framed =
       framed_pick (not (eqb n 0) && leb n (length xs) && rest_fits e (drop n xs)) (identifiers (take n xs)) refl ∙ rw (some_count n) (go (leb 1 n) (leb n (length xs)))
     where
-      go : (a b : Bool) → a && b && rest_fits e (drop n xs) ≡ a && fits_left e (pick b (left (drop n xs)) past)
+      go : (a b : Bool) → a && b && rest_fits e (drop n xs) ≡ a && fits_left e (pick b (Some (drop n xs)) None)
       go true true = refl
       go true false = refl
       go false b = refl
@@ -311,7 +273,7 @@ module _ (x : ℕ) (xs : List ℕ) where
   abbrev counts : Bool
   counts = count_fits (operation_in x) (count_in x)
 
-  abbrev left_in : List ℕ → Left
+  abbrev left_in : List ℕ → Option (List ℕ)
   left_in = left_after (operation_in x) (count_in x)
 
   module _ (short : length (x ∷ xs) ≤ longest) (broken : framed_of (x ∷ xs) ≡ not_framed) where
@@ -324,23 +286,23 @@ module _ (x : ℕ) (xs : List ℕ) where
     unfolding framed_of
     head_framed ys = framed_test (operation_in x) (extension_in x) (count_in x) ys
 
-    no_front : ((m : ℕ) → left_in (take m xs) ≡ past) → (m : ℕ) → framed_of (take m (x ∷ xs)) ≡ not_framed
+    no_front : ((m : ℕ) → left_in (take m xs) ≡ None) → (m : ℕ) → framed_of (take m (x ∷ xs)) ≡ not_framed
     unfolding framed_of
     no_front f zero = refl
     no_front f (suc m) = unframed (framed_of (x ∷ take m xs)) (head_framed (take m xs) ∙ rw (f m) (and_false counts))
 
     module _ (right : counts ≡ true) (fine : HeadWrong (x ∷ xs) → ⊥) where
-      nothing_left : (ys : List ℕ) → extension_in x ≡ 0 → left_in ys ≡ left [] → framed_of (x ∷ ys) ≡ not_framed → ⊥
+      nothing_left : (ys : List ℕ) → extension_in x ≡ 0 → left_in ys ≡ Some [] → framed_of (x ∷ ys) ≡ not_framed → ⊥
       unfolding rest_fits
       nothing_left ys plain e q = false≢true (sym (ap is_framed q) ∙ head_framed ys ∙ rw (right, e, plain))
 
-      some_left : extension_in x ≡ 0 → (rest : List ℕ) → left_in xs ≡ left rest → 0 < length rest
+      some_left : extension_in x ≡ 0 → (rest : List ℕ) → left_in xs ≡ Some rest → 0 < length rest
       some_left plain [] e = absurd (nothing_left xs plain e broken)
       some_left plain (y ∷ rest) e = omega arith
 
-      list_breaks : (l : Left) → left_in xs ≡ l → Fronts left_in xs l → BreaksAt (x ∷ xs) (left_place (1 + length xs) (extension_in x) l)
-      list_breaks past e f = at_end fine (omega arith) (inr (no_front f))
-      list_breaks (left rest) e f =
+      list_breaks : (l : Option (List ℕ)) → left_in xs ≡ l → Fronts left_in xs l → BreaksAt (x ∷ xs) (left_place (1 + length xs) (extension_in x) l)
+      list_breaks None e f = at_end fine (omega arith) (inr (no_front f))
+      list_breaks (Some rest) e f =
           by_test (BreaksAt (x ∷ xs)) (eqb (extension_in x) 0) (1 + length xs - length rest) (1 + length xs)
           (λ t.
           let plain = eqb-true (extension_in x) 0 t in

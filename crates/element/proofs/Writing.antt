@@ -1,128 +1,53 @@
--- Laws of a filter's components as they are written: one after the other, and that together they are the filter's contents.
-use mathlib.Core.Path.{◌≡◌, refl, ap}
-use mathlib.Core.Bool.{true}
-use mathlib.Core.List.{List, ◌∷◌, append-nil}
-use Prim.Native.Nat.{ℕ, ◌+◌, ◌<◌}
-use native.Mathlib.Numerals.{add-one}
+-- Laws of octets stored one after the other.
+use mathlib.Core.Path.{◌≡◌, refl, sym, ap, ◌∙◌}
+use mathlib.Core.List.{List, [], ◌∷◌, ◌++◌, append_assoc}
+use Prim.Native.Nat.{ℕ, suc, ◌+◌, ◌≤◌, ◌<◌}
 use native.Mathlib.Omega.{arith}
-use lib.ListN.{length, get_or, set, length-append}
-use lib.Seq.{sets}
-use Rattle.laws.specs.Lists.{All}
-use Rattle.laws.specs.Octets.{be_bytes}
-use Rattle.laws.proofs.Loops.{ByPlaces}
-use Rattle.laws.proofs.Octets.{be_join, length_be}
-use Rattle.laws.proofs.Parts.{stores_join}
-use Rattle.laws.proofs.Typed.{all_at}
-use Rattle.filter.specs.declared.component.Address.{Address}
-use Rattle.filter.specs.declared.component.RemoteAddress.{RemoteAddress}
-use Rattle.filter.specs.declared.component.RemoteAddress.TheVariants.{Absent as no_address, V4, V6}
-use Rattle.filter.specs.declared.component.Protocol.{Protocol}
-use Rattle.filter.specs.declared.component.Protocol.TheVariants.{Absent as no_protocol, Is as is_protocol}
-use Rattle.filter.specs.declared.component.Port.{Port}
-use Rattle.filter.specs.declared.component.Port.TheVariants.{Absent as no_port, Is as is_port, Range}
-use Rattle.filter.specs.declared.component.Index.{Index}
-use Rattle.filter.specs.declared.component.Index.TheVariants.{Absent as no_index, Is as is_index}
-use Rattle.filter.specs.declared.component.Class.{Class}
-use Rattle.filter.specs.declared.component.Class.TheVariants.{Absent as no_class, Masked}
-use Rattle.filter.specs.declared.component.Label.{Label}
-use Rattle.filter.specs.declared.component.Label.TheVariants.{Absent as no_label, Is as is_label}
-use Rattle.filter.specs.declared.component.Filter.{Filter}
-use Rattle.filter.specs.Ranges.{RemoteInRange, PortInRange, ClassInRange, FilterInRange}
-use Rattle.element.specs.declared.fields.Field.{Field}
-use Rattle.element.specs.declared.fields.Field.TheVariants.{No, Wide}
-use Rattle.element.specs.Contents.{length_of}
-use Rattle.element.specs.Write.{address_bytes, remote_octets, protocol_octets, port_octets, index_octets, class_octets, label_octets, contents_octets}
-use Rattle.element.specs.Inner.Walk.{field_octets, narrow, remote_field, protocol_field, port_field, index_field, class_field, label_field, fields_of, fields_octets}
+use lib.ListN.{length, take, drop, get_or, set, length-append}
+use lib.Seq.{sets, sets-eq, drop-drop}
+use borrow.Rule.Slice.PartMut.{put_mid}
+use Rattle.std.proofs.lemmas.List.{set_comm}
+use Rattle.laws.proofs.Loops.{ByPlaces, Stored, places_end, stored_next, stored_done}
+use Rattle.laws.proofs.Parts.{sets_append}
+use Rattle.element.specs.Inner.Walk.{Puts}
 
--- ---- one component after the other
-pub fields_by_places : ByPlaces (λ i x. field_octets x) (λ i fs. fields_octets fs)
-unfolding fields_octets
-fields_by_places = record { none = λ i. refl; more = λ i x xs. refl }
+-- a part that is written over
+pub part_stores : (at k : ℕ) (out octets : List ℕ) → at + length octets ≤ length out → k ≡ length octets → put_mid at k out octets ≡ sets out at octets
+part_stores at k out octets h e =
+    rw (e, drop-drop (length octets) at out) (sym (sets-eq octets out at h ∙ append_assoc (take at out) octets (drop (at + length octets) out)))
 
-length_address : (a : Address) → length (address_bytes a) ≡ 16
-length_address a = simp (length-append, length_be)
+pub puts_nothing : (at : ℕ) (out : List ℕ) → Puts at [] out out at
+puts_nothing at out = record { after = omega arith; stored = refl }
 
-pub address_stores : (a : Address) (b : List ℕ) (at : ℕ)
-    → sets (sets b at (be_bytes 8 a.high)) (at + 8) (be_bytes 8 a.low) ≡ sets b at (address_bytes a)
-address_stores a b at = stores_join (be_bytes 8 a.high) (be_bytes 8 a.low) b at 8 (length_be 8 a.high)
+pub puts_join : {at mid end : ℕ} {xs ys old between new : List ℕ} → Puts at xs old between mid → Puts mid ys between new end → Puts at (xs ++ ys) old new end
+puts_join {at} {mid} {end} {xs} {ys} {old} {between} {new} p q =
+    record {
+      after = let a = p.after in let b = q.after in simp length-append (omega arith);
+      stored = q.stored ∙ rw (p.stored, p.after) (sets_append xs ys old at);
+    }
 
-pub wide_stores : (address mask : Address) (b : List ℕ) (at : ℕ)
-    → sets (sets (set b at 0x20) (at + 1) (address_bytes address)) (at + 17) (address_bytes mask) ≡ sets b at (field_octets (Wide address mask))
-wide_stores address mask b at =
-    let k : at + 17 ≡ at + 1 + 16 = omega arith in
-    rw (k, stores_join (address_bytes address) (address_bytes mask) (set b at 0x20) (at + 1) 16 (length_address address), add-one)
+-- a store before others
+store_before : (xs out : List ℕ) (i j v : ℕ) → i < j → set (sets out j xs) i v ≡ sets (set out i v) j xs
+store_before [] out i j v h = refl
+store_before (x ∷ xs) out i j v h =
+    store_before xs (set out j x) i (suc j) v (omega arith) ∙ ap (λ (l : List ℕ). sets l (suc j) xs) (set_comm out j i x v (λ e. omega arith))
 
--- ---- each component's field has the component's octets, and a number of at most eight
-abbrev Writes : Field → List ℕ → Type 0
-Writes x os = (field_octets x ≡ os) × (narrow x ≡ true)
+-- three octets before others
+pub three_before : (xs out : List ℕ) (at a p l : ℕ)
+    → set (set (set (sets out (at + 3) xs) at a) (at + 1) p) (at + 2) l ≡ sets out at (a ∷ p ∷ l ∷ xs)
+three_before xs out at a p l =
+    let e1 : at + 1 ≡ suc at = omega arith in
+    let e2 : at + 2 ≡ suc (suc at) = omega arith in
+    let e3 : at + 3 ≡ suc (suc (suc at)) = omega arith in
+    rw (store_before xs out at (at + 3) a (omega arith)) (
+    rw (store_before xs (set out at a) (at + 1) (at + 3) p (omega arith)) (
+    rw (store_before xs (set (set out at a) (at + 1) p) (at + 2) (at + 3) l (omega arith)) (rw (e1, e2, e3))))
 
-remote_writes : (x : RemoteAddress) → RemoteInRange x → Writes (remote_field x) (remote_octets x)
-unfolding length_of
-remote_writes no_address h = (refl, refl)
-remote_writes (V4 address mask) h = (ap (λ (l : List ℕ). 0x10 ∷ l) (be_join 4 4 address mask h.1), refl)
-remote_writes (V6 address mask) h = (refl, refl)
+-- ---- a loop over places that stores what each gives
+module _ {A : Type 0} {part : ℕ → A → List ℕ} {whole : ℕ → List A → List ℕ} (by : ByPlaces part whole) (d : A) {xs : List A} {b₀ : List ℕ} {at i : ℕ} {b : List ℕ} {o : ℕ}
+    (s : Stored whole xs b₀ at i b o) where
+  pub puts_next : i < length xs → {b' : List ℕ} {o' : ℕ} → Puts o (part i (get_or xs i d)) b b' o' → Stored whole xs b₀ at (i + 1) b' o'
+  puts_next l {b'} {o'} p = stored_next by d s l b' o' p.stored p.after
 
-protocol_writes : (x : Protocol) → Writes (protocol_field x) (protocol_octets x)
-unfolding length_of
-protocol_writes no_protocol = (refl, refl)
-protocol_writes (is_protocol x) = (refl, refl)
-
--- with the types of one port and of a range
-port_writes : (one range : ℕ) → length_of one ≡ 2 → length_of range ≡ 4 → (x : Port) → PortInRange x
-    → Writes (port_field one range x) (port_octets one range x)
-port_writes one range e f no_port h = (refl, refl)
-port_writes one range e f (is_port x) h = (rw e, rw e)
-port_writes one range e f (Range low high) h = (rw f (ap (λ (l : List ℕ). range ∷ l) (be_join 2 2 low high h.1)), rw f)
-
-index_writes : (x : Index) → Writes (index_field x) (index_octets x)
-unfolding length_of
-index_writes no_index = (refl, refl)
-index_writes (is_index x) = (refl, refl)
-
-class_writes : (x : Class) → ClassInRange x → Writes (class_field x) (class_octets x)
-unfolding length_of
-class_writes no_class h = (refl, refl)
-class_writes (Masked x mask) h = (ap (λ (l : List ℕ). 0x70 ∷ l) (be_join 1 1 x mask h.1), refl)
-
-label_writes : (x : Label) → Writes (label_field x) (label_octets x)
-unfolding length_of
-label_writes no_label = (refl, refl)
-label_writes (is_label x) = (refl, refl)
-
--- ---- the whole filter
-abbrev IsNarrow : Field → Type 0
-IsNarrow x = narrow x ≡ true
-
-module _ (f : Filter) (ok : FilterInRange f) where
-  local_writes : Writes (port_field 0x40 0x41 f.local) (port_octets 0x40 0x41 f.local)
-  unfolding length_of
-  local_writes = port_writes 0x40 0x41 refl refl f.local ok.local
-
-  far_writes : Writes (port_field 0x50 0x51 f.remote) (port_octets 0x50 0x51 f.remote)
-  unfolding length_of
-  far_writes = port_writes 0x50 0x51 refl refl f.remote ok.remote
-
-  pub contents_fields : fields_octets (fields_of f) ≡ contents_octets f
-  unfolding fields_octets contents_octets
-  contents_fields =
-      rw (
-        (remote_writes f.address ok.address).0,
-        (protocol_writes f.protocol).0,
-        local_writes.0,
-        far_writes.0,
-        (index_writes f.index).0,
-        (class_writes f.class ok.class).0,
-        (label_writes f.label).0,
-        append-nil,
-      )
-
-  fields_narrow : All IsNarrow (fields_of f)
-  fields_narrow =
-      let address = (remote_writes f.address ok.address).1 in
-      let protocol = (protocol_writes f.protocol).1 in
-      let index = (index_writes f.index).1 in
-      let class = (class_writes f.class ok.class).1 in
-      (address, (protocol, (local_writes.1, (far_writes.1, (index, (class, ((label_writes f.label).1, tt)))))))
-
-  pub narrow_at : (i : ℕ) → i < 7 → narrow (get_or (fields_of f) i No) ≡ true
-  narrow_at i h = all_at IsNarrow (fields_of f) fields_narrow No i h
+  pub puts_done : length xs ≤ i → Puts at (whole 0 xs) b₀ b o
+  puts_done l = record { after = omega (arith, s.size, ap length (places_end by d xs i l)); stored = stored_done by d s l }

@@ -1,5 +1,5 @@
 -- A filter's contents: the components' types, lengths and values.
-use Rattle.std.specs.Prelude.{ℕ, zero, suc, ◌%◌, ◌^◌, Bool, not, ◌&&◌, List, [], ◌∷◌, eqb, leb, take, drop, get_or}
+use Rattle.std.specs.Prelude.{ℕ, zero, suc, ◌%◌, ◌^◌, Bool, not, ◌&&◌, List, [], ◌∷◌, eqb, leb, take, drop, get_or, None, Option, Some}
 use Rattle.laws.specs.Says.{pick}
 use Rattle.laws.specs.Octets.{be_of}
 use Rattle.filter.specs.declared.component.Address.{Address}
@@ -10,7 +10,6 @@ use Rattle.filter.specs.Build.{Component, ipv4_remote, ipv6_remote, protocol, lo
 use Rattle.filter.specs.Build.{bare, excluded, added}
 use Rattle.laws.specs.Index.{all_below}
 use Rattle.element.specs.Framing.{Raw, direction_of}
-use Rattle.element.specs.declared.contents.Coded.{Coded, TheVariants.Badly, TheVariants.Well}
 
 -- ---- "Component types and value lengths": a type, how many octets its value has, and what component they say
 pub record TypeRow : Type 0 where
@@ -69,18 +68,18 @@ component_of t xs = look_up (λ l. l.meaning xs) (protocol 0) t type_table
 
 -- ---- "A badly coded filter (unknown or repeated type, component past its contents, empty contents, forbidden pair)"
 -- what the octets say after the filter f so far, of whose last component k octets are still to pass
-unfoldable pub contents_from : ℕ → Filter → List ℕ → Coded
-contents_from zero f [] = Well f
-contents_from (suc k) f [] = Badly
+unfoldable pub contents_from : ℕ → Filter → List ℕ → Option Filter
+contents_from zero f [] = Some f
+contents_from (suc k) f [] = None
 contents_from zero f (t ∷ xs) =
-    pick (known t && not (excluded f t)) (contents_from (length_of t) (added f (component_of t (take (length_of t) xs))) xs) Badly
+    pick (known t && not (excluded f t)) (contents_from (length_of t) (added f (component_of t (take (length_of t) xs))) xs) None
 contents_from (suc k) f (x ∷ xs) = contents_from k f xs
 
 -- f is the filter without a component; "Contents hold at least one component"
-unfoldable pub contents_of : Filter → List ℕ → Coded
-contents_of f [] = Badly
+unfoldable pub contents_of : Filter → List ℕ → Option Filter
+contents_of f [] = None
 contents_of f (t ∷ xs) = contents_from 0 f (t ∷ xs)
 
 -- a filter as it is framed, decoded
-unfoldable pub coded_of : Raw → Coded
+unfoldable pub coded_of : Raw → Option Filter
 coded_of r = contents_of (bare r.precedence (direction_of r)) r.contents

@@ -1,13 +1,12 @@
 -- "a reader that holds the element's bytes and hands out the next entry is wanted too: entries in byte order, repeats included, or at once the cause
 -- where the element reads as one"
-use Rattle.std.specs.Prelude.{◌≡◌, ℕ, zero, suc, ◌+◌, Bool, true, List, [], ◌∷◌, map, eqb, length, get_or, set}
+use Rattle.std.specs.Prelude.{◌≡◌, ℕ, zero, suc, ◌+◌, Bool, true, List, [], ◌∷◌, map, eqb, length, get_or, set, None, Option, Some}
 use Rattle.std.specs.Borrow.{Bor}
 use Rattle.laws.specs.Says.{pick}
 use Rattle.laws.specs.Lists.{All, fold}
 use Rattle.filter.specs.declared.component.Filter.{Filter as PacketFilter}
 use Rattle.element.specs.declared.answer.Refusal.{Refusal}
 use Rattle.element.specs.declared.answer.Element.{Element}
-use Rattle.element.specs.declared.contents.Coded.{Coded, TheVariants.Badly, TheVariants.Well}
 use Rattle.element.specs.declared.entries.Handed.{Handed}
 use Rattle.element.specs.declared.entries.Handed.TheVariants.{Filter, Identifier, Refused, End}
 use Rattle.element.specs.declared.entries.Entries.{Entries}
@@ -23,9 +22,9 @@ pub record Located : Type 0 where
   pub entry : Handed
 
 -- "For 1, 3, 4 each filter is": three octets and its contents. A badly coded one is no entry, and the element reads as a cause
-abbrev pub coded_filter : ℕ → Coded → Handed
-coded_filter identifier Badly = End
-coded_filter identifier (Well f) = Filter identifier f
+abbrev pub coded_filter : ℕ → Option PacketFilter → Handed
+coded_filter identifier None = End
+coded_filter identifier (Some f) = Filter identifier f
 
 abbrev pub located_filter : ℕ → Raw → Located
 located_filter at r = record { at = at; after = at + 3 + length r.contents; entry = coded_filter (identifier_of r) (coded_of r) }
@@ -102,6 +101,24 @@ advanced_of e = moved e (after_at e.value.now e.at)
 
 abbrev pub skipped_of : Entries → ℕ → Entries
 skipped_of e n = moved e (after_all e.value.now e.at n)
+
+-- ---- The entries that are left from an offset on, up to one that is badly coded; none where no entry begins
+abbrev pub handed_before : Handed → List Handed → List Handed
+handed_before (Filter identifier f) hs = Filter identifier f ∷ hs
+handed_before (Identifier identifier) hs = Identifier identifier ∷ hs
+handed_before (Refused refusal) hs = []
+handed_before End hs = []
+
+unfoldable pub handed_in : List Located → List Handed
+handed_in [] = []
+handed_in (p ∷ ps) = handed_before p.entry (handed_in ps)
+
+unfoldable pub left_from : List Located → ℕ → List Handed
+left_from [] at = []
+left_from (p ∷ ps) at = pick (eqb p.at at) (handed_in (p ∷ ps)) (left_from ps at)
+
+abbrev pub entries_left : Entries → List Handed
+entries_left e = left_from (located_of e.value.now) e.at
 
 -- ---- What stepping from the beginning to the end gives
 abbrev pub IsEntry : Handed → Type 0

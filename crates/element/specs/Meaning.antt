@@ -1,5 +1,5 @@
 -- What the layer's theorems say, where that is no computation.
-use Rattle.std.specs.Prelude.{◌≡◌, true, List, [], ◌∷◌, ◌++◌, ◌⊎◌, ℕ, ◌/◌, ◌%◌, ◌≤◌, ◌<◌, length, take, get_or}
+use Rattle.std.specs.Prelude.{◌≡◌, true, List, [], ◌∷◌, ◌++◌, ◌⊎◌, ℕ, ◌/◌, ◌%◌, ◌≤◌, ◌<◌, length, take, get_or, None, Some as Well}
 use Rattle.laws.specs.Lists.{All, Some, Each}
 use Rattle.filter.specs.declared.component.Filter.{Filter}
 use Rattle.filter.specs.Ranges.{FilterInRange}
@@ -9,7 +9,6 @@ use Rattle.element.specs.declared.answer.Refusal.{Refusal}
 use Rattle.element.specs.declared.answer.Answer.{Answer}
 use Rattle.element.specs.declared.answer.Answer.TheVariants.{Refused}
 use Rattle.element.specs.declared.answer.Element.{Element}
-use Rattle.element.specs.declared.contents.Coded.TheVariants.{Badly, Well}
 use Rattle.element.specs.Head.{longest, operation_of, extension_in, count_in, create, delete_tft, add, replace, delete_filters, no_operation}
 use Rattle.element.specs.Numbers.{number_of}
 use Rattle.filter.specs.Sizes.{place_count}
@@ -62,7 +61,7 @@ TooLongOrUnframed xs = (length xs ≤ longest → ⊥) ⊎ (framed_of xs ≡ not
 -- step 7: "A badly coded filter"
 pub record SomeFilterBadlyCoded (xs : List ℕ) : Type 0 where
   pub list : FilterList xs
-  pub badly : Some (λ r. coded_of r ≡ Badly) list.raws
+  pub badly : Some (λ r. coded_of r ≡ None) list.raws
 
 -- step 8: "A filter that no packet fits"
 pub record SomeFilterUnfit (xs : List ℕ) : Type 0 where
@@ -75,7 +74,7 @@ pub record SomethingTwice (xs : List ℕ) : Type 0 where
   pub fit : All (λ e. SomePacketFits e.filter) list.entries
   pub again : twice list.entries ≡ true
 
--- ---- Document 02, 6/14, of a filter: "the first octet of the earliest such filter in the message"
+-- ---- The place of a filter: "the first octet of the earliest such filter in the message"
 -- a filter as it stands in the value, and several
 abbrev pub raw_octets : Raw → List ℕ
 raw_octets r = r.first ∷ r.precedence ∷ length r.contents ∷ r.contents
@@ -86,7 +85,7 @@ raws_octets (r ∷ rs) = raw_octets r ++ raws_octets rs
 
 -- what is wrong of a filter, of which it is known which stand before it
 abbrev pub IsBadlyCoded : List Raw → Raw → Type 0
-IsBadlyCoded before r = coded_of r ≡ Badly
+IsBadlyCoded before r = coded_of r ≡ None
 
 abbrev pub FitsNoPacket : List Raw → Raw → Type 0
 FitsNoPacket before r = (f : Filter) × ((coded_of r ≡ Well f) × (SomePacketFits f → ⊥))
@@ -110,7 +109,7 @@ pub record EarliestAt (xs : List ℕ) (Wrong : List Raw → Raw → Type 0) (pla
   pub wrong : Wrong before here
   pub none : (earlier later : List Raw) (r : Raw) → before ≡ earlier ++ r ∷ later → Wrong earlier r → ⊥
 
--- ---- Document 02, 6/14, of a value that is not framed
+-- ---- The place of a value that is not framed
 -- "Length, operation or count wrong": "The value is 1 to 255 octets"; "0 and 7 are refused", and no octet has an operation above 7; "Count 0 for 1, 3, 4,
 -- 5; count above 0 for 2, 6"
 abbrev pub LengthWrong : List ℕ → Type 0

@@ -1,9 +1,9 @@
--- Document 02, 6/14: "Every refusal of the element reader should carry a place, the offset from 0." Of a value that reads, what is said here is not used.
-use Rattle.std.specs.Prelude.{ℕ, ◌+◌, ◌-◌, Bool, true, false, not, ◌||◌, List, [], ◌∷◌, ◌++◌, map, eqb, leb, length, drop}
+-- "Every refusal of the element reader should carry a place, the offset from 0." Of a value that reads, what is said here is not used.
+use Rattle.std.specs.Prelude.{ℕ, ◌+◌, ◌-◌, Bool, true, false, not, ◌||◌, List, [], ◌∷◌, ◌++◌, map, eqb, leb, length, drop, None, Option, Some}
 use Rattle.laws.specs.Says.{pick}
 use Rattle.laws.specs.Lists.{is_in}
+use Rattle.filter.specs.declared.component.Filter.{Filter}
 use Rattle.filter.specs.Fittable.{fittable}
-use Rattle.element.specs.declared.contents.Coded.{Coded, TheVariants.Badly, TheVariants.Well}
 use Rattle.element.specs.Head.{longest, operation_in, extension_in, count_in, create, delete_tft, add, replace, delete_filters, no_operation}
 use Rattle.element.specs.Framing.{Raw, identifier_of, Split, cut, split, split_of, Framed, not_framed, filters, identifiers, bare, framed_of}
 use Rattle.element.specs.Contents.{coded_of}
@@ -19,23 +19,19 @@ is_bare operation = eqb operation delete_tft || eqb operation no_operation
 abbrev pub count_fits : ℕ → ℕ → Bool
 count_fits operation n = pick (brings_filters operation || eqb operation delete_filters) (leb 1 n) (pick (is_bare operation) (eqb n 0) false)
 
--- what is left after a list of n entries; past, where one of them runs past the end or is missing
-pub data Left : Type 0 where
-  past : Left
-  left : List ℕ → Left
-
-abbrev pub left_by : Split → Left
-left_by cut = past
-left_by (split rs rest) = left rest
+-- what is left after a list of n entries; nothing, where one of them runs past the end or is missing
+abbrev pub left_by : Split → Option (List ℕ)
+left_by cut = None
+left_by (split rs rest) = Some rest
 
 -- an entry is a filter or, of every other operation, an octet
-abbrev pub left_after : ℕ → ℕ → List ℕ → Left
-left_after operation n xs = pick (brings_filters operation) (left_by (split_of n xs)) (pick (leb n (length xs)) (left (drop n xs)) past)
+abbrev pub left_after : ℕ → ℕ → List ℕ → Option (List ℕ)
+left_after operation n xs = pick (brings_filters operation) (left_by (split_of n xs)) (pick (leb n (length xs)) (Some (drop n xs)) None)
 
 -- "An entry or parameter past the end or missing: the value's length. Left-over octets: the first of them." With E what is left are parameters
-abbrev pub left_place : ℕ → ℕ → Left → ℕ
-left_place total e past = total
-left_place total e (left rest) = pick (eqb e 0) (total - length rest) total
+abbrev pub left_place : ℕ → ℕ → Option (List ℕ) → ℕ
+left_place total e None = total
+left_place total e (Some rest) = pick (eqb e 0) (total - length rest) total
 
 -- "Length, operation or count wrong: 0."
 abbrev pub unframed_by : ℕ → ℕ → ℕ → List ℕ → ℕ
@@ -57,13 +53,13 @@ earliest wrong before at [] = 0
 earliest wrong before at (r ∷ rs) = pick (wrong before r) at (earliest wrong (before ++ r ∷ []) (after_raw at r) rs)
 
 -- "Causes 45 and 44 for a filter: the first octet of the earliest such filter in the message."
-abbrev pub is_badly : Coded → Bool
-is_badly Badly = true
-is_badly (Well f) = false
+abbrev pub is_badly : Option Filter → Bool
+is_badly None = true
+is_badly (Some f) = false
 
-abbrev pub is_unfit : Coded → Bool
-is_unfit Badly = false
-is_unfit (Well f) = not (fittable f)
+abbrev pub is_unfit : Option Filter → Bool
+is_unfit None = false
+is_unfit (Some f) = not (fittable f)
 
 abbrev pub badly_coded : List Raw → Raw → Bool
 badly_coded before r = is_badly (coded_of r)

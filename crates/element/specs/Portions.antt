@@ -1,14 +1,13 @@
--- Document 02, 2/14: "The radio side hands us elements in portions. We want to announce the length, feed portions of 0 or more octets, and finish."
-use Rattle.std.specs.Prelude.{◌≡◌, ℕ, ◌+◌, ◌≤◌, ◌<◌, Bool, ◌&&◌, List, [], ◌∷◌, ◌++◌, ◌⊎◌, ◌↔◌, eqb, leb, length, take, drop}
+-- "The radio side hands us elements in portions. We want to announce the length, feed portions of 0 or more octets, and finish."
+use Rattle.std.specs.Prelude.{Result, Ok, Err, ◌≡◌, ℕ, ◌+◌, ◌≤◌, ◌<◌, Bool, ◌&&◌, List, [], ◌∷◌, ◌++◌, ◌⊎◌, ◌↔◌, eqb, leb, length, take, drop}
 use Rattle.laws.specs.Says.{pick}
 use Rattle.laws.specs.Index.{pad}
 use Rattle.laws.specs.Lists.{All, every, fold, Each}
 use Rattle.element.specs.declared.portions.Portions.{Portions}
-use Rattle.element.specs.declared.portions.PortionsAnswer.{PortionsAnswer}
-use Rattle.element.specs.declared.portions.PortionsAnswer.TheVariants.{Taken, TooLong, NotTaken}
-use Rattle.element.specs.declared.portions.PortionsOutcome.{PortionsOutcome}
-use Rattle.element.specs.declared.portions.FinishAnswer.{FinishAnswer}
-use Rattle.element.specs.declared.portions.FinishAnswer.TheVariants.{Read, NotSound, Early}
+use Rattle.element.specs.declared.portions.PortionRefusal.{PortionRefusal}
+use Rattle.element.specs.declared.portions.PortionRefusal.TheVariants.{TooLong, NotTaken}
+use Rattle.element.specs.declared.portions.Unfinished.{Unfinished}
+use Rattle.element.specs.declared.portions.Unfinished.TheVariants.{NotSound, Early}
 use Rattle.element.specs.declared.portions.Finished.{Finished}
 use Rattle.element.specs.Head.{longest}
 use Rattle.element.specs.Numbers.{number_of, portions_number, finish_number}
@@ -32,12 +31,16 @@ unfoldable pub sound : Portions → Bool
 sound p = leb p.fed p.announced && every is_zero (drop p.fed p.octets)
 
 -- ---- The calls
-abbrev pub leaving : Portions → PortionsAnswer → PortionsOutcome
+pub record PortionsOutcome : Type 0 where
+  pub state : Portions
+  pub answer : Result (Unit {0}) PortionRefusal
+
+abbrev pub leaving : Portions → Result (Unit {0}) PortionRefusal → PortionsOutcome
 leaving p answer = record { state = p; answer = answer }
 
 -- "announce the length": "42 on announcing above 255", and then the state is the one that announcing 0 gives
 unfoldable pub announce_of : ℕ → PortionsOutcome
-announce_of n = pick (leb n longest) (leaving (holding n []) Taken) (leaving (holding 0 []) TooLong)
+announce_of n = pick (leb n longest) (leaving (holding n []) (Ok tt)) (leaving (holding 0 []) (Err TooLong))
 
 -- "feed portions of 0 or more octets": "13 when a portion would pass the announced length, or on a state no calls give"; "A refused portion .. leaves
 -- everything fed before as it stood"
@@ -45,14 +48,14 @@ unfoldable pub takes : Portions → ℕ → Bool
 takes p n = sound p && leb (p.fed + n) p.announced
 
 unfoldable pub feed_of : Portions → List ℕ → PortionsOutcome
-feed_of p portion = pick (takes p (length portion)) (leaving (holding p.announced (fed_of p ++ portion)) Taken) (leaving p NotTaken)
+feed_of p portion = pick (takes p (length portion)) (leaving (holding p.announced (fed_of p ++ portion)) (Ok tt)) (leaving p (Err NotTaken))
 
 -- "and finish": 13 "on a state no calls give", "14 when finishing early"; else "the reading or cause is the one for the whole string". It gives no state
-abbrev pub finished : FinishAnswer → List ℕ → Finished
+abbrev pub finished : Result (Unit {0}) Unfinished → List ℕ → Finished
 finished answer xs = record { answer = answer; element = read_element xs }
 
 unfoldable pub finish_of : Portions → Finished
-finish_of p = pick (sound p) (pick (leb p.announced p.fed) (finished Read (fed_of p)) (finished Early [])) (finished NotSound [])
+finish_of p = pick (sound p) (pick (leb p.announced p.fed) (finished (Ok tt) (fed_of p)) (finished (Err Early) [])) (finished (Err NotSound) [])
 
 -- ---- Sequences of calls
 pub data PortionCall : Type 0 where
@@ -124,6 +127,6 @@ pub record FeedGives (p : Portions) (portion : List ℕ) (o : PortionsOutcome) :
 pub record FinishGives (p : Portions) (f : Finished) : Type 0 where
   pub is13 : (finish_number f ≡ 13) ↔ (Reached p → ⊥)
   pub is14 : (finish_number f ≡ 14) ↔ (Reached p × (p.fed < p.announced))
-  pub whole : Reached p → p.fed ≡ p.announced → f ≡ finished Read (fed_of p)
+  pub whole : Reached p → p.fed ≡ p.announced → f ≡ finished (Ok tt) (fed_of p)
   pub reads : Reached p → p.fed ≡ p.announced → finish_number f ≡ number_of (read_element (fed_of p)).answer
   pub refused : (finish_number f ≡ 13) ⊎ (finish_number f ≡ 14) → f.element ≡ read_element []

@@ -1,6 +1,6 @@
 -- The reader. "What the reader gives is one of: a filter set with its operation, an identifier set, a bare operation, or a cause. Its causes are those of
 -- steps 4, 6, 7, 8 and 9 below, in that order." What is read stands first, causes without their places; the end of this page joins the two.
-use Rattle.std.specs.Prelude.{ℕ, Bool, true, false, ◌||◌, List, [], ◌∷◌, map, leb, length, set, replicate}
+use Rattle.std.specs.Prelude.{ℕ, Bool, true, false, ◌||◌, List, [], ◌∷◌, map, leb, length, set, replicate, None, Option, Some}
 use Rattle.laws.specs.Says.{pick}
 use Rattle.laws.specs.Lists.{every, repeats}
 use Rattle.filter.specs.declared.component.Filter.{Filter}
@@ -11,7 +11,6 @@ use Rattle.element.specs.declared.answer.SetOperation.{SetOperation}
 use Rattle.element.specs.declared.answer.Cause.{Cause, TheVariants.Operation, TheVariants.Semantics, TheVariants.Coding}
 use Rattle.element.specs.declared.answer.Answer.{Answer, TheVariants.Filters, TheVariants.Identifiers, TheVariants.Bare, TheVariants.Refused}
 use Rattle.element.specs.declared.answer.Element.{Element}
-use Rattle.element.specs.declared.contents.Coded.{Coded, TheVariants.Badly, TheVariants.Well}
 use Rattle.element.specs.Head.{longest}
 use Rattle.element.specs.Framing.{Raw, identifier_in, identifier_of, Framed, not_framed, filters, identifiers, bare, framed_of}
 use Rattle.element.specs.Contents.{coded_of}
@@ -45,10 +44,10 @@ pub data Entries : Type 0 where
   badly : Entries
   coded : List Entry → Entries
 
-abbrev pub with_entry : ℕ → Coded → Entries → Entries
-with_entry identifier Badly es = badly
-with_entry identifier (Well f) badly = badly
-with_entry identifier (Well f) (coded es) = coded (record { identifier = identifier; filter = f } ∷ es)
+abbrev pub with_entry : ℕ → Option Filter → Entries → Entries
+with_entry identifier None es = badly
+with_entry identifier (Some f) badly = badly
+with_entry identifier (Some f) (coded es) = coded (record { identifier = identifier; filter = f } ∷ es)
 
 unfoldable pub entries_of : List Raw → Entries
 entries_of [] = coded []
@@ -94,7 +93,7 @@ read_value xs = judged_frame (framed_of xs)
 unfoldable pub unplaced : List ℕ → Element
 unplaced xs = pick (leb (length xs) longest) (read_value xs) (refused Operation)
 
--- ---- Document 02, 6/14: "Every refusal of the element reader should carry a place", and "Cause numbers and their order stay."
+-- ---- "Every refusal of the element reader should carry a place", and "Cause numbers and their order stay."
 abbrev pub at_place : ℕ → Answer → Answer
 at_place place (Filters operation) = Filters operation
 at_place place Identifiers = Identifiers

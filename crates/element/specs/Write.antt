@@ -1,21 +1,14 @@
 -- The writer: "filters in rising identifier and components in rising type", E and spare bits 0.
-use Rattle.std.specs.Prelude.{ℕ, suc, ◌+◌, ◌*◌, Bool, true, false, not, ◌&&◌, List, [], ◌∷◌, ◌++◌, map, leb, length, drop}
+use Rattle.std.specs.Prelude.{Result, Ok, Err, ℕ, suc, ◌+◌, ◌*◌, Bool, true, false, not, ◌&&◌, List, [], ◌∷◌, ◌++◌, map, leb, length, drop, None, Option, Some}
 use Rattle.laws.specs.Says.{pick}
 use Rattle.laws.specs.Lists.{every, repeats}
 use Rattle.laws.specs.Octets.{be_bytes}
 use Rattle.filter.specs.declared.component.Address.{Address}
 use Rattle.filter.specs.declared.component.RemoteAddress.{RemoteAddress}
 use Rattle.filter.specs.declared.component.RemoteAddress.TheVariants.{Absent as no_address, V4, V6}
-use Rattle.filter.specs.declared.component.Protocol.{Protocol}
-use Rattle.filter.specs.declared.component.Protocol.TheVariants.{Absent as no_protocol, Is as is_protocol}
 use Rattle.filter.specs.declared.component.Port.{Port}
 use Rattle.filter.specs.declared.component.Port.TheVariants.{Absent as no_port, Is as is_port, Range}
-use Rattle.filter.specs.declared.component.Index.{Index}
-use Rattle.filter.specs.declared.component.Index.TheVariants.{Absent as no_index, Is as is_index}
 use Rattle.filter.specs.declared.component.Class.{Class}
-use Rattle.filter.specs.declared.component.Class.TheVariants.{Absent as no_class, Masked}
-use Rattle.filter.specs.declared.component.Label.{Label}
-use Rattle.filter.specs.declared.component.Label.TheVariants.{Absent as no_label, Is as is_label}
 use Rattle.filter.specs.declared.component.Filter.{Filter}
 use Rattle.filter.specs.Component.{ipv4_remote_type, ipv6_remote_type, protocol_type, local_port_type, local_range_type, remote_port_type, remote_range_type}
 use Rattle.filter.specs.Component.{index_type, class_type, label_type}
@@ -30,8 +23,6 @@ use Rattle.element.specs.declared.answer.Answer.TheVariants.{Filters, Identifier
 use Rattle.element.specs.declared.answer.Element.{Element}
 use Rattle.element.specs.declared.write.Unwritten.{Unwritten}
 use Rattle.element.specs.declared.write.Unwritten.TheVariants.{NotGiven, TooLong, NoRoom}
-use Rattle.element.specs.declared.write.Written.{Written}
-use Rattle.element.specs.declared.write.Written.TheVariants.{Wrote, Refused as refused_to}
 use Rattle.element.specs.Head.{longest, first_octet, create, delete_tft, add, replace, delete_filters, no_operation}
 use Rattle.element.specs.Read.{Entry, precedence_of}
 
@@ -44,26 +35,26 @@ remote_octets no_address = []
 remote_octets (V4 address mask) = ipv4_remote_type ∷ be_bytes 4 address ++ be_bytes 4 mask
 remote_octets (V6 address mask) = ipv6_remote_type ∷ address_bytes address ++ address_bytes mask
 
-abbrev pub protocol_octets : Protocol → List ℕ
-protocol_octets no_protocol = []
-protocol_octets (is_protocol x) = protocol_type ∷ be_bytes 1 x
+abbrev pub protocol_octets : Option ℕ → List ℕ
+protocol_octets None = []
+protocol_octets (Some x) = protocol_type ∷ be_bytes 1 x
 
 abbrev pub port_octets : ℕ → ℕ → Port → List ℕ
 port_octets one range no_port = []
 port_octets one range (is_port x) = one ∷ be_bytes 2 x
 port_octets one range (Range low high) = range ∷ be_bytes 2 low ++ be_bytes 2 high
 
-abbrev pub index_octets : Index → List ℕ
-index_octets no_index = []
-index_octets (is_index x) = index_type ∷ be_bytes 4 x
+abbrev pub index_octets : Option ℕ → List ℕ
+index_octets None = []
+index_octets (Some x) = index_type ∷ be_bytes 4 x
 
-abbrev pub class_octets : Class → List ℕ
-class_octets no_class = []
-class_octets (Masked x mask) = class_type ∷ be_bytes 1 x ++ be_bytes 1 mask
+abbrev pub class_octets : Option Class → List ℕ
+class_octets None = []
+class_octets (Some m) = class_type ∷ be_bytes 1 m.class ++ be_bytes 1 m.mask
 
-abbrev pub label_octets : Label → List ℕ
-label_octets no_label = []
-label_octets (is_label x) = label_type ∷ be_bytes 3 x
+abbrev pub label_octets : Option ℕ → List ℕ
+label_octets None = []
+label_octets (Some x) = label_type ∷ be_bytes 3 x
 
 -- "components in rising type"
 unfoldable pub contents_octets : Filter → List ℕ
@@ -132,14 +123,14 @@ given e = given_by e.answer e.filters e.marks
 
 -- ---- "Writer: 10, 11, 9. Octets after those written stay." A refusal leaves the buffer
 pub record WriteOutcome : Type 0 where
-  pub written : Written
+  pub written : Result ℕ Unwritten
   pub buffer : List ℕ
 
 abbrev pub leaves : Unwritten → List ℕ → WriteOutcome
-leaves why buffer = record { written = refused_to why; buffer = buffer }
+leaves why buffer = record { written = Err why; buffer = buffer }
 
 abbrev pub wrote : List ℕ → List ℕ → WriteOutcome
-wrote xs buffer = record { written = Wrote (length xs); buffer = xs ++ drop (length xs) buffer }
+wrote xs buffer = record { written = Ok (length xs); buffer = xs ++ drop (length xs) buffer }
 
 -- by whether the reader could give it, whether it is short enough, and whether there is room
 abbrev pub written_by : Bool → Bool → Bool → Element → List ℕ → WriteOutcome

@@ -5,21 +5,22 @@ ghost use Rattle.element.specs.Numbers.{cause_number, number_of, placed_number};
 use filter::Filter;
 use filter::component::PLACES;
 
-#[derive(Clone, Copy)]
+// Each with its number in octet 1.
+#[derive(Clone, Copy, PartialEq, Eq)]
 pub enum SetOperation {
-    Create,
-    Add,
-    Replace,
+    Create = 1,
+    Add = 3,
+    Replace = 4,
 }
 
-#[derive(Clone, Copy)]
+#[derive(Clone, Copy, PartialEq, Eq)]
 pub enum BareOperation {
-    DeleteTft,
-    NoOperation,
+    DeleteTft = 2,
+    NoOperation = 6,
 }
 
-// 42, 44 and 45 of document 01.
-#[derive(Clone, Copy)]
+// Numbers 42, 44 and 45.
+#[derive(Clone, Copy, PartialEq, Eq)]
 pub enum Cause {
     Operation,
     Semantics,
@@ -27,13 +28,14 @@ pub enum Cause {
 }
 
 // The place is the offset, from 0, of what is wrong in the value.
-#[derive(Clone, Copy)]
+#[derive(Clone, Copy, PartialEq, Eq)]
 pub struct Refusal {
     pub cause: Cause,
     pub place: u8,
 }
 
-#[derive(Clone, Copy)]
+// Not a Result: what the reader gives is one of these four, a refusal among them, and the sets that it fills stand beside the answer in `Element`.
+#[derive(Clone, Copy, PartialEq, Eq)]
 pub enum Answer {
     Filters(SetOperation),
     Identifiers,
@@ -59,18 +61,13 @@ fn cause_number(cause: Cause) -> u8
     }
 }
 
-// Document 01's number: 0, or the cause.
+// Its number: 0, or the cause.
 pub fn number(answer: Answer) -> u8
     ensures { result ≡ number_of answer }
 {
     match answer {
-        Answer::Filters(_) => 0,
-        Answer::Identifiers => 0,
-        Answer::Bare(_) => 0,
-        Answer::Refused(refusal) => {
-            let cause = refusal.cause;
-            cause_number(cause)
-        }
+        Answer::Refused(refusal) => cause_number(refusal.cause),
+        Answer::Filters(_) | Answer::Identifiers | Answer::Bare(_) => 0,
     }
 }
 
@@ -79,12 +76,9 @@ pub fn placed_number(answer: Answer) -> u16
     ensures { result ≡ placed_number answer }
 {
     match answer {
-        Answer::Filters(_) => 0,
-        Answer::Identifiers => 0,
-        Answer::Bare(_) => 0,
         Answer::Refused(refusal) => {
-            let cause = refusal.cause;
-            cause_number(cause) as u16 * 256 + refusal.place as u16
+            u16::from(cause_number(refusal.cause)) * 256 + u16::from(refusal.place)
         }
+        Answer::Filters(_) | Answer::Identifiers | Answer::Bare(_) => 0,
     }
 }

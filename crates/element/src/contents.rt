@@ -1,120 +1,99 @@
 // A filter's contents: one component after the other.
-ghost use Rattle.std.specs.Prelude.{◌≡◌, true, ◌+◌, ◌%◌, ◌^◌, ◌≤◌, ◌<◌, length, take, drop};
+ghost use Rattle.std.specs.Prelude.{◌≡◌, true, ◌%◌, ◌^◌, length};
 ghost use Rattle.laws.specs.Octets.{be_of};
 ghost use Rattle.filter.specs.Build.{added};
 ghost use Rattle.element.specs.Contents.{length_of, known, address_of, component_of, contents_of};
-ghost use Rattle.element.specs.Inner.Walk.{step_at};
+ghost use Rattle.element.specs.Inner.Walk.{Gives, next_component};
 
 use crate::lengths::component_length;
-use crate::octets::number_at;
 use filter::component::{
-    CLASS, INDEX, IPV4_REMOTE, IPV6_REMOTE, LOCAL_PORT, LOCAL_RANGE, PROTOCOL, REMOTE_PORT,
+    CLASS, INDEX, IPV4_REMOTE, IPV6_REMOTE, LABEL, LOCAL_PORT, LOCAL_RANGE, PROTOCOL, REMOTE_PORT,
     REMOTE_RANGE,
 };
 use filter::{Address, Filter};
 
-#[derive(Clone, Copy)]
-pub enum Coded {
-    Badly,
-    Well(Filter),
-}
-
-// The filter with one component more, and the place after it.
-#[derive(Clone, Copy)]
-pub enum Step {
-    Halt,
-    Next(Filter, usize),
-}
-
-#[tactic(auto, using(laws::proofs::Parts::part_skip))]
-fn address_at(s: &[u8], at: usize) -> Address
-    requires { at + 16 ≤ length s.now }
-    ensures { result ≡ address_of (take 16 (drop at s.now)) }
+#[tactic(auto, unfolding(laws::specs::Octets::be_from))]
+fn address_of(octets: [u8; 16]) -> Address
+    ensures { result ≡ address_of octets }
 {
+    let [a, b, c, d, e, f, g, h, i, j, k, l, m, n, o, p] = octets;
     Address {
-        high: number_at(s, at, 8),
-        low: number_at(s, at + 8, 8),
+        high: u64::from_be_bytes([a, b, c, d, e, f, g, h]),
+        low: u64::from_be_bytes([i, j, k, l, m, n, o, p]),
     }
 }
 
 // A flow label's top four bits are spare.
-fn label_at(s: &[u8], at: usize) -> u32
-    requires { at + 3 ≤ length s.now }
-    ensures { result ≡ be_of (take 3 (drop at s.now)) % 2 ^ 20 }
+#[tactic(auto, unfolding(laws::specs::Octets::be_from))]
+fn label_of(octets: [u8; 3]) -> u32
+    ensures { result ≡ be_of octets % 2 ^ 20 }
 {
-    (number_at(s, at, 3) % 1048576) as u32
+    let [a, b, c] = octets;
+    u32::from_be_bytes([0, a, b, c]) % 1048576
 }
 
-// The component of type t, a known one, whose value stands at `at`.
-#[tactic(auto, using(laws::proofs::Parts::part_skip), unfolding(crate::specs::Contents::component_of, crate::specs::Contents::length_of))]
-fn add_component(f: Filter, t: u8, s: &[u8], at: usize) -> Filter
-    requires { (at + length_of t ≤ length s.now) × (known t ≡ true) }
-    ensures { result ≡ added f (component_of t (take (length_of t) (drop at s.now))) }
+// The filter with the component of a known type, which has these octets.
+#[tactic(auto, unfolding(crate::specs::Contents::component_of, crate::specs::Contents::length_of, laws::specs::Octets::be_from))]
+fn with_component(filter: Filter, kind: u8, octets: &[u8]) -> Filter
+    requires { (length octets.now ≡ length_of kind) × (known kind ≡ true) }
+    ensures { result ≡ added filter (component_of kind octets.now) }
 {
-    match t {
-        IPV4_REMOTE => f.with_ipv4_remote(
-            number_at(s, at, 4) as u32,
-            number_at(s, at + 4, 4) as u32,
+    match (kind, octets) {
+        (IPV4_REMOTE, [a, b, c, d, e, f, g, h]) => filter.with_ipv4_remote(
+            u32::from_be_bytes([*a, *b, *c, *d]),
+            u32::from_be_bytes([*e, *f, *g, *h]),
         ),
-        IPV6_REMOTE => f.with_ipv6_remote(address_at(s, at), address_at(s, at + 16)),
-        PROTOCOL => f.with_protocol(number_at(s, at, 1) as u8),
-        LOCAL_PORT => f.with_local_port(number_at(s, at, 2) as u16),
-        LOCAL_RANGE => f.with_local_range(
-            number_at(s, at, 2) as u16,
-            number_at(s, at + 2, 2) as u16,
-        ),
-        REMOTE_PORT => f.with_remote_port(number_at(s, at, 2) as u16),
-        REMOTE_RANGE => f.with_remote_range(
-            number_at(s, at, 2) as u16,
-            number_at(s, at + 2, 2) as u16,
-        ),
-        INDEX => f.with_index(number_at(s, at, 4) as u32),
-        CLASS => f.with_class(number_at(s, at, 1) as u8, number_at(s, at + 1, 1) as u8),
-        _ => f.with_label(label_at(s, at)),
-    }
-}
-
-#[tactic(auto, unfolding(crate::specs::Inner::Walk::step_at))]
-fn step_at(f: Filter, s: &[u8], at: usize) -> Step
-    requires { at < length s.now }
-    ensures { result ≡ step_at f s.now at }
-{
-    let t = s[at];
-    let w = component_length(t);
-    if w == 0 {
-        return Step::Halt;
-    }
-    if f.excludes_type(t) {
-        return Step::Halt;
-    }
-    let from = at + 1;
-    if s.len() - from < w {
-        return Step::Halt;
-    }
-    Step::Next(add_component(f, t, s, from), from + w)
-}
-
-// What all the octets of s say, f being the filter without a component.
-#[tactic(auto, using(crate::proofs::Reading::end, crate::proofs::Reading::further, crate::proofs::Reading::inside, crate::proofs::Reading::nothing, crate::proofs::Reading::start, crate::proofs::Reading::turn))]
-pub(crate) fn read_contents(f: Filter, s: &[u8]) -> Coded
-    ensures { result ≡ contents_of f s.now }
-{
-    if s.len() == 0 {
-        return Coded::Badly;
-    }
-    let mut g = f;
-    let mut at = 0;
-    while at < s.len() {
-        let step = step_at(g, s, at);
-        match step {
-            Step::Halt => {
-                return Coded::Badly;
-            }
-            Step::Next(h, next) => {
-                g = h;
-                at = next;
-            }
+        (IPV6_REMOTE, octets) => {
+            let (address, mask) = octets.split_at(16);
+            filter.with_ipv6_remote(
+                address_of(address.try_into().unwrap()),
+                address_of(mask.try_into().unwrap()),
+            )
         }
+        (PROTOCOL, [protocol]) => filter.with_protocol(*protocol),
+        (LOCAL_PORT, [a, b]) => filter.with_local_port(u16::from_be_bytes([*a, *b])),
+        (LOCAL_RANGE, [a, b, c, d]) => filter.with_local_range(
+            u16::from_be_bytes([*a, *b]),
+            u16::from_be_bytes([*c, *d]),
+        ),
+        (REMOTE_PORT, [a, b]) => filter.with_remote_port(u16::from_be_bytes([*a, *b])),
+        (REMOTE_RANGE, [a, b, c, d]) => filter.with_remote_range(
+            u16::from_be_bytes([*a, *b]),
+            u16::from_be_bytes([*c, *d]),
+        ),
+        (INDEX, [a, b, c, d]) => filter.with_index(u32::from_be_bytes([*a, *b, *c, *d])),
+        (CLASS, [class, mask]) => filter.with_class(*class, *mask),
+        (LABEL, [a, b, c]) => filter.with_label(label_of([*a, *b, *c])),
+        _ => unreachable!(),
     }
-    Coded::Well(g)
+}
+
+#[tactic(auto, unfolding(crate::specs::Inner::Walk::next_component))]
+fn next_component(filter: Filter, octets: &[u8]) -> Option<(Filter, &[u8])>
+    ensures { Gives (λ x. (x.0, x.1.now)) result (next_component filter octets.now) }
+{
+    let [kind, rest @ ..] = octets else {
+        return None;
+    };
+    let length = component_length(*kind);
+    if length == 0 || filter.excludes_type(*kind) {
+        return None;
+    }
+    let (value, rest) = rest.split_at_checked(length)?;
+    Some((with_component(filter, *kind, value), rest))
+}
+
+// What all the octets say, the filter being without a component.
+pub(crate) fn read_contents(filter: Filter, octets: &[u8]) -> Option<Filter>
+    ensures { result ≡ contents_of filter octets.now }
+{
+    if octets.is_empty() {
+        return None;
+    }
+    let mut held = filter;
+    let mut rest = octets;
+    while !rest.is_empty() {
+        (held, rest) = next_component(held, rest)?;
+    }
+    Some(held)
 }

@@ -1,180 +1,132 @@
-// A filter's components as they are written.
-ghost use Rattle.std.specs.Prelude.{◌≡◌, true, ◌+◌, ◌*◌, ◌^◌, ◌≤◌, length};
-ghost use Rattle.std.proofs.lemmas.List.Edits.{sets};
-ghost use Rattle.element.specs.Write.{address_bytes, contents_octets};
-ghost use Rattle.element.specs.Inner.Walk.{field_octets, remote_field, protocol_field, port_field, index_field, class_field, label_field, fields_of, narrow};
+// A filter's components as they are written, each into `out` from `at`; the place after it.
+ghost use Rattle.std.specs.Prelude.{◌≡◌, ◌+◌, ◌≤◌, length};
+ghost use Rattle.element.specs.Write.{address_bytes, remote_octets, protocol_octets, port_octets, index_octets, class_octets, label_octets, contents_octets};
+ghost use Rattle.element.specs.Inner.Walk.{Puts};
 
-use crate::lengths::component_length;
-use crate::octets::store;
+use crate::octets::put;
 use filter::component::{
     CLASS, INDEX, IPV4_REMOTE, IPV6_REMOTE, LABEL, LOCAL_PORT, LOCAL_RANGE, PROTOCOL, REMOTE_PORT,
     REMOTE_RANGE,
 };
-use filter::{Address, Class, Filter, Index, Label, Port, Protocol, RemoteAddress};
+use filter::{Address, Class, Filter, Port, RemoteAddress};
 
-const KINDS: usize = 7;
-
-// None, a type with a number of its length, or IPv6 addresses.
-#[derive(Clone, Copy)]
-pub enum Field {
-    No,
-    Narrow(u8, u64),
-    Wide(Address, Address),
+#[tactic(auto, using(crate::proofs::Writing::puts_join), unfolding(laws::specs::Octets::be_bytes))]
+fn put_address(out: &mut [u8], at: usize, address: &Address) -> usize
+    requires { at + 16 ≤ length out.old }
+    ensures { Puts at (address_bytes address.now) out.old out.new result }
+{
+    let at = put(out, at, &address.high.to_be_bytes());
+    put(out, at, &address.low.to_be_bytes())
 }
 
-// Two numbers as one, which has the octets of the first and then those of the second.
-fn pair(t: u8, first: u32, unit: u64, second: u32) -> Field
-    requires { unit ≤ 2 ^ 32 }
-    ensures { result ≡ Field.Narrow t (first * unit + second) }
+#[tactic(auto, unfolding(laws::specs::Octets::be_bytes))]
+fn put_remote(out: &mut [u8], at: usize, address: &RemoteAddress) -> usize
+    requires { at + 33 ≤ length out.old }
+    ensures put { Puts at (remote_octets address.now) out.old out.new result }
+    ensures few { result ≤ at + 33 }
 {
-    Field::Narrow(t, first as u64 * unit + second as u64)
-}
-
-fn remote_field(x: RemoteAddress) -> Field
-    ensures { result ≡ remote_field x }
-{
-    match x {
-        RemoteAddress::Absent => Field::No,
-        RemoteAddress::V4 { address, mask } => pair(IPV4_REMOTE, address, 4294967296, mask),
-        RemoteAddress::V6 { address, mask } => Field::Wide(address, mask),
+    match address {
+        RemoteAddress::Absent => at,
+        RemoteAddress::V4 { address, mask } => {
+            let [a, b, c, d] = address.to_be_bytes();
+            let [e, f, g, h] = mask.to_be_bytes();
+            put(out, at, &[IPV4_REMOTE, a, b, c, d, e, f, g, h])
+        }
+        RemoteAddress::V6 { address, mask } => {
+            let at = put(out, at, &[IPV6_REMOTE]);
+            let at = put_address(out, at, address);
+            put_address(out, at, mask)
+        }
     }
 }
 
-fn protocol_field(x: Protocol) -> Field
-    ensures { result ≡ protocol_field x }
+#[tactic(auto, unfolding(laws::specs::Octets::be_bytes))]
+fn put_protocol(out: &mut [u8], at: usize, protocol: Option<u8>) -> usize
+    requires { at + 2 ≤ length out.old }
+    ensures put { Puts at (protocol_octets protocol) out.old out.new result }
+    ensures few { result ≤ at + 2 }
 {
-    match x {
-        Protocol::Absent => Field::No,
-        Protocol::Is(v) => Field::Narrow(PROTOCOL, v as u64),
+    match protocol {
+        None => at,
+        Some(protocol) => put(out, at, &[PROTOCOL, protocol]),
     }
 }
 
-fn port_field(one: u8, range: u8, x: Port) -> Field
-    ensures { result ≡ port_field one range x }
+// The type of one port is `one`, that of a range `range`.
+#[tactic(auto, unfolding(laws::specs::Octets::be_bytes))]
+fn put_port(out: &mut [u8], at: usize, one: u8, range: u8, port: &Port) -> usize
+    requires { at + 5 ≤ length out.old }
+    ensures put { Puts at (port_octets one range port.now) out.old out.new result }
+    ensures few { result ≤ at + 5 }
 {
-    match x {
-        Port::Absent => Field::No,
-        Port::Is(v) => Field::Narrow(one, v as u64),
-        Port::Range { low, high } => pair(range, low as u32, 65536, high as u32),
+    match port {
+        Port::Absent => at,
+        Port::Is(port) => {
+            let [a, b] = port.to_be_bytes();
+            put(out, at, &[one, a, b])
+        }
+        Port::Range { low, high } => {
+            let [a, b] = low.to_be_bytes();
+            let [c, d] = high.to_be_bytes();
+            put(out, at, &[range, a, b, c, d])
+        }
     }
 }
 
-fn index_field(x: Index) -> Field
-    ensures { result ≡ index_field x }
+#[tactic(auto, unfolding(laws::specs::Octets::be_bytes))]
+fn put_index(out: &mut [u8], at: usize, index: Option<u32>) -> usize
+    requires { at + 5 ≤ length out.old }
+    ensures put { Puts at (index_octets index) out.old out.new result }
+    ensures few { result ≤ at + 5 }
 {
-    match x {
-        Index::Absent => Field::No,
-        Index::Is(v) => Field::Narrow(INDEX, v as u64),
+    match index {
+        None => at,
+        Some(index) => {
+            let [a, b, c, d] = index.to_be_bytes();
+            put(out, at, &[INDEX, a, b, c, d])
+        }
     }
 }
 
-fn class_field(x: Class) -> Field
-    ensures { result ≡ class_field x }
+#[tactic(auto, unfolding(laws::specs::Octets::be_bytes))]
+fn put_class(out: &mut [u8], at: usize, class: &Option<Class>) -> usize
+    requires { at + 3 ≤ length out.old }
+    ensures put { Puts at (class_octets class.now) out.old out.new result }
+    ensures few { result ≤ at + 3 }
 {
-    match x {
-        Class::Absent => Field::No,
-        Class::Masked { class, mask } => pair(CLASS, class as u32, 256, mask as u32),
+    match class {
+        None => at,
+        Some(Class { class, mask }) => put(out, at, &[CLASS, *class, *mask]),
     }
 }
 
-fn label_field(x: Label) -> Field
-    ensures { result ≡ label_field x }
+#[tactic(auto, unfolding(laws::specs::Octets::be_bytes))]
+fn put_label(out: &mut [u8], at: usize, label: Option<u32>) -> usize
+    requires { at + 4 ≤ length out.old }
+    ensures put { Puts at (label_octets label) out.old out.new result }
+    ensures few { result ≤ at + 4 }
 {
-    match x {
-        Label::Absent => Field::No,
-        Label::Is(v) => Field::Narrow(LABEL, v as u64),
+    match label {
+        None => at,
+        Some(label) => {
+            let [_, a, b, c] = label.to_be_bytes();
+            put(out, at, &[LABEL, a, b, c])
+        }
     }
 }
 
 // In rising type.
-fn fields(f: Filter) -> [Field; KINDS]
-    ensures { result ≡ fields_of f }
+#[tactic(auto, unfolding(crate::specs::Write::contents_octets))]
+pub(crate) fn put_contents(out: &mut [u8], at: usize, filter: &Filter) -> usize
+    requires { at + 57 ≤ length out.old }
+    ensures put { Puts at (contents_octets filter.now) out.old out.new result }
+    ensures few { result ≤ at + 57 }
 {
-    let address = f.address;
-    let protocol = f.protocol;
-    let local = f.local;
-    let remote = f.remote;
-    let index = f.index;
-    let class = f.class;
-    let label = f.label;
-    [
-        remote_field(address),
-        protocol_field(protocol),
-        port_field(LOCAL_PORT, LOCAL_RANGE, local),
-        port_field(REMOTE_PORT, REMOTE_RANGE, remote),
-        index_field(index),
-        class_field(class),
-        label_field(label),
-    ]
-}
-
-#[tactic(auto, using(laws::proofs::Octets::length_be))]
-fn field_size(x: Field) -> usize
-    ensures { (result ≡ length (field_octets x)) × (result ≤ 33) }
-{
-    match x {
-        Field::No => 0,
-        Field::Narrow(t, _) => 1 + component_length(t),
-        Field::Wide(_, _) => 33,
-    }
-}
-
-#[tactic(auto, using(crate::proofs::Writing::contents_fields, crate::proofs::Writing::fields_by_places, filter::proofs::Typed::filter_in_range, laws::proofs::Loops::places_end, laws::proofs::Loops::size_next))]
-pub(crate) fn contents_size(f: Filter) -> usize
-    ensures { (result ≡ length (contents_octets f)) × (result ≤ 231) }
-{
-    let fs = fields(f);
-    let mut n = 0;
-    for i in 0..KINDS {
-        let x = fs[i];
-        n += field_size(x);
-    }
-    n
-}
-
-#[tactic(auto, using(crate::proofs::Writing::address_stores))]
-fn put_address(b: &mut [u8], at: usize, x: Address)
-    requires { at + 16 ≤ length b.old }
-    ensures { b.new ≡ sets b.old at (address_bytes x) }
-{
-    store(b, at, 8, x.high);
-    store(b, at + 8, 8, x.low);
-}
-
-// One component into b from `at`; the place after it. A type's number has at most eight octets.
-#[tactic(auto, using(laws::proofs::Octets::length_be, crate::proofs::Writing::wide_stores))]
-fn put_field(b: &mut [u8], at: usize, x: Field) -> usize
-    requires { (at + length (field_octets x) ≤ length b.old) × (narrow x ≡ true) }
-    ensures { (result ≡ at + length (field_octets x)) × (b.new ≡ sets b.old at (field_octets x)) }
-{
-    match x {
-        Field::No => at,
-        Field::Narrow(t, v) => {
-            let w = component_length(t);
-            b[at] = t;
-            store(b, at + 1, w, v);
-            at + 1 + w
-        }
-        Field::Wide(address, mask) => {
-            b[at] = IPV6_REMOTE;
-            put_address(b, at + 1, address);
-            put_address(b, at + 17, mask);
-            at + 33
-        }
-    }
-}
-
-// The filter's contents into b from `at`; the place after them.
-#[tactic(auto, using(crate::proofs::Writing::contents_fields, crate::proofs::Writing::fields_by_places, filter::proofs::Typed::filter_in_range, crate::proofs::Writing::narrow_at, laws::proofs::Loops::places_end, laws::proofs::Loops::stored_done, laws::proofs::Loops::stored_next, laws::proofs::Loops::stored_room))]
-pub(crate) fn put_contents(b: &mut [u8], at: usize, f: Filter) -> usize
-    requires { at + length (contents_octets f) ≤ length b.old }
-    ensures { (result ≡ at + length (contents_octets f)) × (b.new ≡ sets b.old at (contents_octets f)) }
-{
-    let fs = fields(f);
-    let mut o = at;
-    for i in 0..KINDS {
-        let x = fs[i];
-        o = put_field(b, o, x);
-    }
-    o
+    let at = put_remote(out, at, &filter.address);
+    let at = put_protocol(out, at, filter.protocol);
+    let at = put_port(out, at, LOCAL_PORT, LOCAL_RANGE, &filter.local);
+    let at = put_port(out, at, REMOTE_PORT, REMOTE_RANGE, &filter.remote);
+    let at = put_index(out, at, filter.index);
+    let at = put_class(out, at, &filter.class);
+    put_label(out, at, filter.label)
 }

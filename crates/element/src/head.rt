@@ -39,10 +39,9 @@ pub(crate) fn count_in(octet: u8) -> u8
 pub fn operation_of(value: &[u8]) -> u8
     ensures { result ≡ operation_of value.now }
 {
-    if value.len() == 0 {
-        0
-    } else {
-        operation_in(value[0])
+    match value {
+        [first, ..] => operation_in(*first),
+        [] => 0,
     }
 }
 

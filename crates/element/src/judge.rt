@@ -1,33 +1,13 @@
 // The coding, the fit and the repeats of a value's filters, each filter decoded once.
-ghost use Rattle.std.specs.Prelude.{◌≡◌, true, false, ◌+◌, ◌≤◌, ◌<◌, length, drop, get_or, set};
+ghost use Rattle.std.specs.Prelude.{◌≡◌, true, false, ◌≤◌, ◌<◌, length, drop, get_or, set};
+ghost use Rattle.element.specs.Head.{longest};
 ghost use Rattle.element.specs.Framing.{split_of};
-ghost use Rattle.element.specs.Contents.{coded_of};
-ghost use Rattle.element.specs.Inner.Walk.{raw_at, whole, found_start, earlier_of, found_split, verdict_of, first_place, judged_of};
+ghost use Rattle.element.specs.Inner.Walk.{first_of, whole, raws_in, judged_row};
 
-use crate::contents::{Coded, read_contents};
-use crate::framing::identifier_in;
-use crate::octets::wide;
+use crate::answer::{Cause, Refusal};
+use crate::framing::next_filter;
 use filter::Filter;
 use filter::component::{PLACES, PRECEDENCES};
-use filter::sample::fittable;
-
-// The first of the reader's steps that some filter fails: coding, fit, repeats.
-#[derive(Clone, Copy)]
-pub enum Verdict {
-    Badly,
-    Unfit,
-    Repeated,
-    Fine,
-}
-
-// The place is where the earliest filter begins that is wrong so, and 0 where none is. The row has the filters by identifier, and is empty where anything was
-// found wrong.
-#[derive(Clone, Copy)]
-pub struct Judged {
-    pub verdict: Verdict,
-    pub place: usize,
-    pub row: [Filter; PLACES],
-}
 
 // Whether x is marked already; it is from now on.
 fn marked_before(marks: &mut [bool], x: usize) -> bool
@@ -39,90 +19,53 @@ fn marked_before(marks: &mut [bool], x: usize) -> bool
     before
 }
 
-// The filter at `at`, which is all there.
-#[tactic(auto, unfolding(crate::specs::Contents::coded_of))]
-pub(crate) fn coded_at(s: &[u8], at: usize) -> Coded
-    requires { (at + 3 ≤ length s.now) × (at + 3 + get_or s.now (at + 2) 0 ≤ length s.now) }
-    ensures { result ≡ coded_of (raw_at s.now at) }
+// What was found wrong before, if anything; else this, if it is wrong.
+fn first(found: Option<Refusal>, wrong: bool, refusal: Refusal) -> Option<Refusal>
+    ensures { result ≡ first_of found wrong refusal }
 {
-    let direction = s[at] / 16 % 4;
-    let l = wide(s[at + 2]);
-    let from = at + 3;
-    read_contents(Filter::bare(s[at + 1], direction), &s[from..from + l])
+    if wrong {
+        found.or(Some(refusal))
+    } else {
+        found
+    }
 }
 
-// The place found before, if any; else this one, where it is wrong. No filter begins at 0.
-fn earlier(found: usize, wrong: bool, at: usize) -> usize
-    ensures { result ≡ earlier_of found wrong at }
-{
-    if wrong & (found == 0) { at } else { found }
-}
-
-fn verdict_of(badly: usize, unfit: usize, repeated: usize) -> Verdict
-    ensures { result ≡ verdict_of badly unfit repeated }
-{
-    if badly != 0 {
-        return Verdict::Badly;
-    }
-    if unfit != 0 {
-        return Verdict::Unfit;
-    }
-    if repeated != 0 {
-        return Verdict::Repeated;
-    }
-    Verdict::Fine
-}
-
-fn first_place(badly: usize, unfit: usize, repeated: usize) -> usize
-    ensures { result ≡ first_place badly unfit repeated }
-{
-    if badly != 0 {
-        return badly;
-    }
-    if unfit != 0 {
-        return unfit;
-    }
-    repeated
-}
-
-// The n filters of the value s, which are all there. What is found of them stays in locals: a state that is handed on with its row is copied each turn.
-#[tactic(auto, using(crate::proofs::Splitting::raw_long, crate::proofs::Splitting::reached_judged, crate::proofs::Splitting::reached_more, crate::proofs::Splitting::turn_inside), unfolding(crate::specs::Inner::Walk::found_raw, crate::specs::Read::no_filters, crate::specs::Read::no_marks, crate::specs::Inner::Walk::no_precedences))]
-pub(crate) fn judge_all(s: &[u8], n: u8) -> Judged
-    requires { whole (split_of n (drop 1 s.now)) ≡ true }
-    ensures { result ≡ judged_of (found_split found_start (split_of n (drop 1 s.now))) }
+// The n filters of a value, by identifier. Where the list is refused, the place is where the earliest filter begins that is wrong:
+// badly coded, before one that no packet fits, before one that repeats another.
+pub(crate) fn read_filters(value: &[u8], n: u8) -> Result<[Filter; PLACES], Refusal>
+    requires { ((0 < length value.now) × (length value.now ≤ longest)) × (whole (split_of n (drop 1 value.now)) ≡ true) }
+    ensures { result ≡ judged_row (raws_in (split_of n (drop 1 value.now))) }
 {
     let mut row = [Filter::bare(0, 0); PLACES];
     let mut identifiers = [false; PLACES];
     let mut precedences = [false; PRECEDENCES];
-    let mut badly = 0;
-    let mut unfit = 0;
-    let mut repeated = 0;
-    let mut at = 1;
-    let mut i: u8 = 0;
-    while i < n {
-        let identifier = wide(identifier_in(s[at]));
-        let again = marked_before(&mut identifiers[..], identifier)
-            | marked_before(&mut precedences[..], wide(s[at + 1]));
-        repeated = earlier(repeated, again, at);
-        let coded = coded_at(s, at);
-        match coded {
-            Coded::Badly => badly = earlier(badly, true, at),
-            Coded::Well(f) => {
-                unfit = earlier(unfit, !fittable(f), at);
-                row[identifier] = f;
-            }
-        }
-        at = at + 3 + wide(s[at + 2]);
-        i += 1;
+    let mut unfit = None;
+    let mut repeated = None;
+    let mut rest = &value[1..];
+    for _ in 0..n {
+        let place = (value.len() - rest.len()) as u8;
+        let Some((raw, after)) = next_filter(rest) else {
+            unreachable!();
+        };
+        let coding = Refusal {
+            cause: Cause::Coding,
+            place,
+        };
+        let semantics = Refusal {
+            cause: Cause::Semantics,
+            place,
+        };
+        let identifier = usize::from(raw.identifier());
+        let again = marked_before(&mut identifiers, identifier)
+            | marked_before(&mut precedences, usize::from(raw.precedence));
+        let filter = raw.decoded().ok_or(coding)?;
+        unfit = first(unfit, !filter.fittable(), semantics);
+        repeated = first(repeated, again, coding);
+        row[identifier] = filter;
+        rest = after;
     }
-    let verdict = verdict_of(badly, unfit, repeated);
-    let place = first_place(badly, unfit, repeated);
-    if place != 0 {
-        row = [Filter::bare(0, 0); PLACES];
-    }
-    Judged {
-        verdict,
-        place,
-        row,
+    match unfit.or(repeated) {
+        Some(refusal) => Err(refusal),
+        None => Ok(row),
     }
 }

@@ -2,8 +2,6 @@
 ghost use Rattle.std.specs.Prelude.{◌≡◌, true, ◌≤◌};
 ghost use Rattle.element.specs.Contents.{length_of, lengths_right};
 
-use crate::octets::wide;
-
 const LENGTHS: [u8; 256] = [
     0, 0, 0, 0, 0, 0, 0, 0, 0, 0, 0, 0, 0, 0, 0, 0, 8, 0, 0, 0, 0, 0, 0, 0, 0, 0, 0, 0, 0, 0, 0, 0,
     32, 0, 0, 0, 0, 0, 0, 0, 0, 0, 0, 0, 0, 0, 0, 0, 1, 0, 0, 0, 0, 0, 0, 0, 0, 0, 0, 0, 0, 0, 0,
@@ -21,7 +19,7 @@ fn length_in(lengths: &[u8; 256], t: u8) -> usize
     requires { lengths_right lengths.now ≡ true }
     ensures { (result ≡ length_of t) × (result ≤ 32) }
 {
-    wide(lengths[t as usize])
+    usize::from(lengths[usize::from(t)])
 }
 
 #[tactic(auto, unfolding(laws::specs::Index::all_below, crate::specs::Contents::length_of))]

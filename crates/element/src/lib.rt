@@ -9,7 +9,6 @@ pub mod head;
 mod judge;
 mod lengths;
 mod octets;
-mod places;
 pub mod portions;
 pub mod read;
 mod survey;
@@ -17,5 +16,5 @@ pub mod write;
 
 pub use answer::{Answer, BareOperation, Cause, Element, Refusal, SetOperation};
 pub use entries::{Entries, Handed};
-pub use portions::{FinishAnswer, Finished, Portions, PortionsAnswer, PortionsOutcome};
-pub use write::{Unwritten, Written};
+pub use portions::{Finished, PortionRefusal, Portions, Unfinished};
+pub use write::Unwritten;

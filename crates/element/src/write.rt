@@ -1,268 +1,189 @@
 // The writer.
 ghost use Rattle.std.specs.Prelude.{◌≡◌, true, not, ◌+◌, ◌≤◌, ◌<◌, length};
-ghost use Rattle.std.proofs.lemmas.List.Edits.{sets};
+ghost use Rattle.std.specs.List.{list_all};
 ghost use Rattle.laws.specs.Lists.{every};
-ghost use Rattle.laws.specs.Says.{pick};
 ghost use Rattle.filter.specs.Coding.{largest_direction, empty_place, held};
 ghost use Rattle.filter.specs.Fittable.{place_fine};
+ghost use Rattle.filter.specs.Sizes.{place_count};
 ghost use Rattle.element.specs.Numbers.{written_number};
 ghost use Rattle.element.specs.Write.{set_number, bare_number, entries_from, entries_octets, marks_from, octets_of, given, write_of};
-ghost use Rattle.element.specs.Inner.Walk.{place_octets, mark_octets};
-ghost use Rattle.filter.specs.Sizes.{place_count};
+ghost use Rattle.element.specs.Inner.Walk.{Puts, place_octets, mark_octets};
 
 use crate::answer::{Answer, BareOperation, Element, SetOperation};
-use crate::fields::{contents_size, put_contents};
-use crate::head::{ADD, CREATE, DELETE_FILTERS, DELETE_TFT, LONGEST, NO_OPERATION, REPLACE};
-use crate::octets::wide;
+use crate::fields::put_contents;
+use crate::head::{DELETE_FILTERS, LONGEST};
 use crate::survey::row_given;
 use filter::Filter;
-use filter::coding::{empty_place, held};
 use filter::component::PLACES;
 
-// 10, 11 and 9 of document 01.
-#[derive(Clone, Copy)]
+// A first octet, and sixteen filters of at most 60 octets each.
+const MOST: usize = 961;
+
+// Numbers 10, 11 and 9.
+#[derive(Clone, Copy, PartialEq, Eq)]
 pub enum Unwritten {
     NotGiven,
     TooLong,
     NoRoom,
 }
 
-#[derive(Clone, Copy)]
-pub enum Written {
-    Wrote(usize),
-    Refused(Unwritten),
-}
-
-// Document 01's number of a refusal; 0 where the value was written.
-pub fn written_number(written: Written) -> u8
+// The number of a refusal; 0 where the value was written.
+pub fn written_number(written: Result<usize, Unwritten>) -> u8
     ensures { result ≡ written_number written }
 {
     match written {
-        Written::Wrote(_) => 0,
-        Written::Refused(why) => match why {
-            Unwritten::NotGiven => 10,
-            Unwritten::TooLong => 11,
-            Unwritten::NoRoom => 9,
-        },
+        Ok(_) => 0,
+        Err(Unwritten::NotGiven) => 10,
+        Err(Unwritten::TooLong) => 11,
+        Err(Unwritten::NoRoom) => 9,
     }
 }
 
 fn set_number(operation: SetOperation) -> u8
     ensures { (result ≡ set_number operation) × (result ≤ 4) }
 {
-    match operation {
-        SetOperation::Create => CREATE,
-        SetOperation::Add => ADD,
-        SetOperation::Replace => REPLACE,
-    }
+    operation as u8
 }
 
 fn bare_number(operation: BareOperation) -> u8
     ensures { (result ≡ bare_number operation) × (result ≤ 6) }
 {
-    match operation {
-        BareOperation::DeleteTft => DELETE_TFT,
-        BareOperation::NoOperation => NO_OPERATION,
-    }
+    operation as u8
 }
 
-#[tactic(auto, using(laws::proofs::Loops::every_done, laws::proofs::Loops::every_more, crate::proofs::Typed::row_in_range))]
-fn no_filters(row: [Filter; PLACES]) -> bool
-    ensures { result ≡ every empty_place row }
+fn no_filters(row: &[Filter; PLACES]) -> bool
+    ensures { result ≡ list_all empty_place row.now }
 {
-    let mut all = true;
-    for i in 0..PLACES {
-        let f = row[i];
-        all = all & empty_place(f);
-    }
-    all
+    row.iter().all(|filter| filter.empty_place())
 }
 
-#[tactic(auto, using(laws::proofs::Loops::every_done, laws::proofs::Loops::every_more, crate::proofs::Typed::marks_long))]
-fn no_marks(marks: [bool; PLACES]) -> bool
-    ensures { result ≡ every not marks }
+fn no_marks(marks: &[bool; PLACES]) -> bool
+    ensures { result ≡ list_all not marks.now }
 {
-    let mut all = true;
-    for i in 0..PLACES {
-        all = all & !marks[i];
-    }
-    all
+    marks.iter().all(|mark| !*mark)
 }
 
-fn one_if(b: bool) -> u8
-    ensures { result ≡ pick b 1 0 }
+#[tactic(auto, using(crate::proofs::Rows::entries_counted))]
+fn count_filters(row: &[Filter; PLACES]) -> u8
+    ensures { (result ≡ length (entries_from 0 row.now)) × (result ≤ place_count) }
 {
-    if b { 1 } else { 0 }
+    row.iter().filter(|filter| filter.held()).count() as u8
 }
 
-#[tactic(auto, using(crate::proofs::Rows::entries_by_places, crate::proofs::Rows::entry_at, crate::proofs::Rows::one_long, crate::proofs::Rows::one_small, laws::proofs::Loops::places_end, crate::proofs::Typed::row_in_range, laws::proofs::Loops::size_next))]
-fn count_filters(row: [Filter; PLACES]) -> u8
-    ensures { (result ≡ length (entries_from 0 row)) × (result ≤ place_count) }
+#[tactic(auto, using(crate::proofs::Rows::marks_counted))]
+fn count_marks(marks: &[bool; PLACES]) -> u8
+    ensures { (result ≡ length (marks_from 0 marks.now)) × (result ≤ place_count) }
 {
-    let mut n: u8 = 0;
-    for i in 0..PLACES {
-        let f = row[i];
-        n += one_if(held(f));
-    }
-    n
+    marks.iter().filter(|mark| **mark).count() as u8
 }
 
-#[tactic(auto, using(crate::proofs::Rows::marks_by_places, crate::proofs::Typed::marks_long, crate::proofs::Rows::one_long, crate::proofs::Rows::one_small, laws::proofs::Loops::places_end, laws::proofs::Loops::size_next))]
-fn count_marks(marks: [bool; PLACES]) -> u8
-    ensures { (result ≡ length (marks_from 0 marks)) × (result ≤ place_count) }
+#[tactic(auto, using(crate::proofs::Rows::every_all), unfolding(crate::specs::Write::given, crate::specs::Write::marks_given))]
+fn given_element(element: &Element) -> bool
+    ensures { result ≡ given element.now }
 {
-    let mut n: u8 = 0;
-    for i in 0..PLACES {
-        n += one_if(marks[i]);
-    }
-    n
-}
-
-#[tactic(auto, unfolding(crate::specs::Write::given, crate::specs::Write::marks_given))]
-fn given_element(element: Element) -> bool
-    ensures { result ≡ given element }
-{
-    let answer = element.answer;
-    let row = element.filters;
-    let marks = element.marks;
-    match answer {
-        Answer::Filters(_) => row_given(row) & no_marks(marks),
+    match element.answer {
+        Answer::Filters(_) => row_given(&element.filters) & no_marks(&element.marks),
         Answer::Identifiers => {
-            let n = count_marks(marks);
-            no_filters(row) & ((1 <= n) & (n <= 15))
+            let n = count_marks(&element.marks);
+            no_filters(&element.filters) & ((1 <= n) & (n <= 15))
         }
-        Answer::Bare(_) => no_filters(row) & no_marks(marks),
+        Answer::Bare(_) => no_filters(&element.filters) & no_marks(&element.marks),
         Answer::Refused(_) => false,
     }
 }
 
-// How many octets a place of a row is; its identifier makes no difference.
+// A place of a row into `out` from `at`; the place after it.
 #[tactic(auto, unfolding(crate::specs::Write::entry_octets, crate::specs::Inner::Walk::place_octets))]
-fn place_size(f: Filter) -> usize
-    ensures { (result ≡ length (place_octets 0 f)) × (result ≤ 234) }
+fn put_place(out: &mut [u8], at: usize, identifier: u8, filter: &Filter) -> usize
+    requires { (at + 60 ≤ length out.old) × (identifier < place_count) × (held filter.now ≡ true → filter.now.direction ≤ largest_direction) }
+    ensures put { Puts at (place_octets identifier filter.now) out.old out.new result }
+    ensures few { result ≤ at + 60 }
 {
-    if held(f) { 3 + contents_size(f) } else { 0 }
-}
-
-#[tactic(auto, using(crate::proofs::Rows::octets_by_places, crate::proofs::Rows::place_long, laws::proofs::Loops::places_end, crate::proofs::Typed::row_in_range, laws::proofs::Loops::size_next))]
-fn row_size(row: [Filter; PLACES]) -> usize
-    ensures { (result ≡ length (entries_octets (entries_from 0 row))) × (result ≤ 3744) }
-{
-    let mut n = 0;
-    for i in 0..PLACES {
-        let f = row[i];
-        n += place_size(f);
-    }
-    n
-}
-
-#[tactic(auto, unfolding(crate::specs::Write::octets_of))]
-fn element_size(element: Element) -> usize
-    ensures { result ≡ length (octets_of element) }
-{
-    let answer = element.answer;
-    let row = element.filters;
-    let marks = element.marks;
-    match answer {
-        Answer::Filters(_) => 1 + row_size(row),
-        Answer::Identifiers => 1 + wide(count_marks(marks)),
-        Answer::Bare(_) => 1,
-        Answer::Refused(_) => 0,
-    }
-}
-
-// A place of a row into b from `at`; the place after it in b.
-#[tactic(auto, unfolding(crate::specs::Write::entry_octets, crate::specs::Inner::Walk::place_octets))]
-fn put_place(b: &mut [u8], at: usize, identifier: u8, f: Filter) -> usize
-    requires { (at + length (place_octets identifier f) ≤ length b.old) × (identifier < place_count) × (held f ≡ true → f.direction ≤ largest_direction) }
-    ensures { (result ≡ at + length (place_octets identifier f)) × (b.new ≡ sets b.old at (place_octets identifier f)) }
-{
-    if !held(f) {
+    if !filter.held() {
         return at;
     }
-    b[at] = f.direction * 16 + identifier;
-    b[at + 1] = f.precedence;
-    b[at + 2] = contents_size(f) as u8;
-    put_contents(b, at + 3, f)
+    let end = put_contents(out, at + 3, filter);
+    out[at] = filter.direction * 16 + identifier;
+    out[at + 1] = filter.precedence;
+    out[at + 2] = (end - (at + 3)) as u8;
+    end
 }
 
-#[tactic(auto, using(laws::proofs::Loops::every_at, crate::proofs::Rows::given_direction, crate::proofs::Rows::octets_by_places, crate::proofs::Typed::row_in_range, laws::proofs::Loops::stored_done, laws::proofs::Loops::stored_next, laws::proofs::Loops::stored_room))]
-fn put_row(b: &mut [u8], at: usize, row: [Filter; PLACES])
-    requires { (at + length (entries_octets (entries_from 0 row)) ≤ length b.old) × (every place_fine row ≡ true) }
-    ensures { b.new ≡ sets b.old at (entries_octets (entries_from 0 row)) }
+fn put_row(out: &mut [u8], at: usize, row: &[Filter; PLACES]) -> usize
+    requires { (at + 960 ≤ length out.old) × (every place_fine row.now ≡ true) }
+    ensures put { Puts at (entries_octets (entries_from 0 row.now)) out.old out.new result }
+    ensures few { result ≤ at + 960 }
 {
-    let mut o = at;
-    let mut i: u8 = 0;
-    while (i as usize) < PLACES {
-        let f = row[i as usize];
-        o = put_place(b, o, i, f);
-        i += 1;
+    let mut end = at;
+    for (identifier, filter) in row.iter().enumerate() {
+        end = put_place(out, end, identifier as u8, filter);
     }
+    end
 }
 
-// A mark's identifier into b from `at`, where it is set; the place after it.
-fn put_mark(b: &mut [u8], at: usize, identifier: u8, mark: bool) -> usize
-    requires { at + length (mark_octets identifier mark) ≤ length b.old }
-    ensures { (result ≡ at + length (mark_octets identifier mark)) × (b.new ≡ sets b.old at (mark_octets identifier mark)) }
+// A mark's identifier into `out` from `at`, where it is set; the place after it.
+fn put_mark(out: &mut [u8], at: usize, identifier: u8, mark: bool) -> usize
+    requires { at < length out.old }
+    ensures put { Puts at (mark_octets identifier mark) out.old out.new result }
+    ensures few { result ≤ at + 1 }
 {
     if !mark {
         return at;
     }
-    b[at] = identifier;
+    out[at] = identifier;
     at + 1
 }
 
-#[tactic(auto, using(crate::proofs::Rows::marks_by_places, crate::proofs::Typed::marks_long, laws::proofs::Loops::stored_done, laws::proofs::Loops::stored_next, laws::proofs::Loops::stored_room))]
-fn put_marks(b: &mut [u8], at: usize, marks: [bool; PLACES])
-    requires { at + length (marks_from 0 marks) ≤ length b.old }
-    ensures { b.new ≡ sets b.old at (marks_from 0 marks) }
+fn put_marks(out: &mut [u8], at: usize, marks: &[bool; PLACES]) -> usize
+    requires { at + 16 ≤ length out.old }
+    ensures put { Puts at (marks_from 0 marks.now) out.old out.new result }
+    ensures few { result ≤ at + 16 }
 {
-    let mut o = at;
-    let mut i: u8 = 0;
-    while (i as usize) < PLACES {
-        o = put_mark(b, o, i, marks[i as usize]);
-        i += 1;
+    let mut end = at;
+    for (identifier, mark) in marks.iter().enumerate() {
+        end = put_mark(out, end, identifier as u8, *mark);
     }
+    end
 }
 
-// The octets of an element that the reader could give, into b, which has room for them.
+// The octets of an element that the reader could give, and how many they are.
 #[tactic(auto, using(laws::proofs::Tests::both), unfolding(crate::specs::Write::given, crate::specs::Write::octets_of, crate::specs::Write::row_given))]
-fn put_element(b: &mut [u8], element: Element)
-    requires { (length (octets_of element) ≤ length b.old) × (given element ≡ true) }
-    ensures { b.new ≡ sets b.old 0 (octets_of element) }
+fn put_element(out: &mut [u8; MOST], element: &Element) -> usize
+    requires { given element.now ≡ true }
+    ensures put { Puts 0 (octets_of element.now) out.old out.new result }
+    ensures few { result ≤ 961 }
 {
-    let answer = element.answer;
-    let row = element.filters;
-    let marks = element.marks;
-    match answer {
+    match element.answer {
         Answer::Filters(operation) => {
-            b[0] = set_number(operation) * 32 + count_filters(row);
-            put_row(b, 1, row);
+            out[0] = set_number(operation) * 32 + count_filters(&element.filters);
+            put_row(out, 1, &element.filters)
         }
         Answer::Identifiers => {
-            b[0] = DELETE_FILTERS * 32 + count_marks(marks);
-            put_marks(b, 1, marks);
+            out[0] = DELETE_FILTERS * 32 + count_marks(&element.marks);
+            put_marks(out, 1, &element.marks)
         }
         Answer::Bare(operation) => {
-            b[0] = bare_number(operation) * 32;
+            out[0] = bare_number(operation) * 32;
+            1
         }
-        Answer::Refused(_) => {}
+        Answer::Refused(_) => 0,
     }
 }
 
-pub fn write(element: Element, buffer: &mut [u8]) -> Written
-    ensures { (result ≡ (write_of element buffer.old).written) × (buffer.new ≡ (write_of element buffer.old).buffer) }
+pub fn write(element: &Element, buffer: &mut [u8]) -> Result<usize, Unwritten>
+    ensures { (result ≡ (write_of element.now buffer.old).written) × (buffer.new ≡ (write_of element.now buffer.old).buffer) }
 {
     if !given_element(element) {
-        return Written::Refused(Unwritten::NotGiven);
+        return Err(Unwritten::NotGiven);
     }
-    let n = element_size(element);
+    let mut octets = [0; MOST];
+    let n = put_element(&mut octets, element);
     if LONGEST < n {
-        return Written::Refused(Unwritten::TooLong);
+        return Err(Unwritten::TooLong);
     }
     if buffer.len() < n {
-        return Written::Refused(Unwritten::NoRoom);
+        return Err(Unwritten::NoRoom);
     }
-    put_element(buffer, element);
-    Written::Wrote(n)
+    buffer[..n].copy_from_slice(&octets[..n]);
+    Ok(n)
 }

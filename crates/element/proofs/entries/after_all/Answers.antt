@@ -5,10 +5,10 @@ use native.Mathlib.Omega.{arith}
 use Rattle.element.specs.Entries.{after_all}
 use Rattle.element.proofs.entries.after_all.Goals as goal
 
-pub loop-i-preserved : goal.loop-i-preserved
+pub loop-preserved : goal.loop-preserved
 unfolding after_all
-loop-i-preserved c =
+loop-preserved c =
     let a = c.args in
-    let l = c.loop-i in
-    let e : a.n - l.i ≡ suc (a.n - (l.i + 1)) = omega arith in
-    (omega arith, rw c.after-to.ensures (rw e at l.invariant.1))
+    let l = c.loop in
+    let e : a.n - l.counter ≡ suc (a.n - (l.counter + 1)) = omega arith in
+    rw c.after-to.ensures (rw e at l.invariant)

@@ -1,41 +1,55 @@
--- `element::entries::filter_at` meets its contract: where a filter begins, its contents decide.
-use mathlib.Core.Path.{sym, ◌∙◌}
+-- `element::entries::filter_at` meets its contract. The loop's invariant: what is found among the filters that are left is what is found among all.
+use mathlib.Core.Path.{◌≡◌, sym, ◌∙◌}
+use Prim.Native.Nat.{ℕ, ◌+◌, ◌-◌}
 use native.Mathlib.Omega.{arith}
-use lib.ListN.{drop}
-use Rattle.element.specs.Framing.{split_of}
-use Rattle.element.specs.Inner.Walk.{located_split}
-use Rattle.element.proofs.Offsets.{Begun, begun}
+use lib.ListN.{length}
+use Rattle.element.specs.Framing.{Raw, Split, identifier_of, split_of}
+use Rattle.element.specs.Contents.{coded_of}
+use Rattle.element.specs.Entries.{coded_filter}
+use Rattle.element.specs.Inner.Walk.{seen}
+use Rattle.element.proofs.Splitting.{next_long, turn, turn_there, turn_whole}
+use Rattle.element.proofs.Offsets.{filter_here, filter_later, filter_found, filters_none}
 use Rattle.element.proofs.entries.filter_at.Goals as goal
+use Rattle.element.proofs.entries.filter_at.Goals.{in-Some-decoded, in-None}
 
-pub coded_at-coded-requires : goal.coded_at-coded-requires
-coded_at-coded-requires c =
-    let there : let a = c.args in
-    Begun a.value.now (located_split 1 (split_of a.n (drop 1 a.value.now))) a.at = let f = c.filter_begins in
-    begun _ _ 1 _ c.requires (sym f.ensures ∙ c.if-not-filter_begins.false) in
-    there.inside
+pub unreachable-requires : goal.unreachable-requires
+unreachable-requires c = turn_there c.args.count c.loop.counter c.loop-test.true c.loop.rest.now c.loop.invariant.1 (c.in_default.ensures {u = tt})
 
-pub bounds-value-at : goal.bounds-value-at
-bounds-value-at c =
-    let there : let a = c.args in
-    Begun a.value.now (located_split 1 (split_of a.n (drop 1 a.value.now))) a.at = let f = c.filter_begins in
-    begun _ _ 1 _ c.requires (sym f.ensures ∙ c.if-not-filter_begins.false) in
-    omega (arith, there.inside)
+pub returns-then-value-rest : goal.returns-then-value-rest
+returns-then-value-rest c =
+    let l = c.loop in
+    let next = c.in-Some.ensures in
+    let r : Raw = seen c.in-Some.filter in
+    let q : Split = split_of (c.args.count - (l.counter + 1)) c.in-Some.after.now in
+    let from : ℕ = length c.args.value.now - length l.rest.now in
+    let whole = turn_whole c.args.count l.counter c.loop-test.true l.rest.now l.invariant.1 _ next in
+    let long = next_long l.rest.now _ next in
+    let within = l.invariant.0 in
+    let entry : c.match-decoded.entry ≡ coded_filter (identifier_of r) (coded_of r) =
+    elim c.match-decoded.branch [
+      | in-Some-decoded w ↦ rw (w.entry-is, w.identifier.ensures) (rw (← c.decoded.ensures, w.in-Some-decoded.is))
+      | in-None w ↦ rw w.entry-is (rw (← c.decoded.ensures, w.in-None.is))
+    ] in
+    filter_found from c.args.at _ _ r c.if-value-rest.true (omega arith) entry
+    ∙ sym (filter_here from c.args.at r q whole c.if-value-rest.true)
+    ∙ rw (turn c.args.count l.counter c.loop-test.true l.rest.now _ next) at l.invariant.2
 
-pub returns-in-Badly : goal.returns-in-Badly
-returns-in-Badly c =
-    let there : let a = c.args in
-    Begun a.value.now (located_split 1 (split_of a.n (drop 1 a.value.now))) a.at = let f = c.filter_begins in
-    begun _ _ 1 _ c.requires (sym f.ensures ∙ c.if-not-filter_begins.false) in
-    rw (there.found, ← c.coded_at-coded.ensures, c.in-Badly.is)
-
-pub returns-in-Well : goal.returns-in-Well
-returns-in-Well c =
-    let there : let a = c.args in
-    Begun a.value.now (located_split 1 (split_of a.n (drop 1 a.value.now))) a.at = let f = c.filter_begins in
-    begun _ _ 1 _ c.requires (sym f.ensures ∙ c.if-not-filter_begins.false) in
-    rw (
-      there.found,
-      ← c.coded_at-coded.ensures,
-      c.in-Well.is,
-      c.identifier_in.ensures,
+pub loop-preserved : goal.loop-preserved
+loop-preserved c =
+    let l = c.loop in
+    let next = c.in-Some.ensures in
+    let r : Raw = seen c.in-Some.filter in
+    let q : Split = split_of (c.args.count - (l.counter + 1)) c.in-Some.after.now in
+    let from : ℕ = length c.args.value.now - length l.rest.now in
+    let whole = turn_whole c.args.count l.counter c.loop-test.true l.rest.now l.invariant.1 _ next in
+    let long = next_long l.rest.now _ next in
+    let within = l.invariant.0 in
+    let after : length c.args.value.now - length c.in-Some.after.now ≡ from + 3 + length r.contents = omega arith in (
+      omega arith,
+      whole,
+      rw after
+          (sym (filter_later from c.args.at r q whole c.if-value-rest.false) ∙ rw (turn c.args.count l.counter c.loop-test.true l.rest.now _ next) at l.invariant.2),
     )
+
+pub returns : goal.returns
+returns c = sym (filters_none c.args.at _ c.args.count c.loop.counter c.loop-test.false c.loop.rest.now) ∙ c.loop.invariant.2

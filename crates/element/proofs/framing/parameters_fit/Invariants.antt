@@ -1,11 +1,10 @@
 use mathlib.Core.Path.{◌≡◌}
-use Prim.Native.Nat.{◌-◌, ◌≤◌}
-use lib.ListN.{length, drop}
+use lib.ListN.{length}
 use Rattle.element.specs.Framing.{parameters}
 use Rattle.element.proofs.framing.parameters_fit.Given as goal
 
-abbrev pub invariant-loop-at : goal.invariant-loop-at
-invariant-loop-at l = (l.at ≤ length l.s) × (parameters 0 (drop l.at l.s) ≡ parameters 0 l.s)
+abbrev pub invariant-loop-rest : goal.invariant-loop-rest
+invariant-loop-rest l = parameters 0 l.rest ≡ parameters 0 l.octets
 
-abbrev pub decreases-loop-at : goal.decreases-loop-at
-decreases-loop-at l = length l.s - l.at
+abbrev pub decreases-loop-rest : goal.decreases-loop-rest
+decreases-loop-rest l = length l.rest

@@ -12,4 +12,5 @@ returns c =
     let at = get_or c.args.lengths.now in
     let h : c.args.t < 256 = search rules in
     let entry = (says_all 256 (λ i l. says_and (says_eq (at i 0) (length_of i)) (says_le (at i 0) 32))).to c.requires c.args.t h in
-    (c.wide.ensures ∙ entry.0, rw c.wide.ensures entry.1)
+    let told = rw c.from.ensures at c.from-2.ensures in
+    (told ∙ entry.0, rw told entry.1)

@@ -1,12 +1,9 @@
 use mathlib.Core.Path.{◌≡◌}
-use Prim.Native.Nat.{◌-◌, ◌≤◌}
-use lib.ListN.{length, drop}
+use lib.ListN.{length, take, drop}
 use Rattle.filter.specs.Sizes.{place_count}
-use Rattle.element.specs.Read.{no_marks, marked}
+use Rattle.element.specs.Read.{marked}
 use Rattle.element.proofs.read.mark_all.Given as goal
 
-abbrev pub invariant-loop-i : goal.invariant-loop-i
-invariant-loop-i l = (l.i ≤ length l.s) × (length l.marks ≡ place_count) × (marked (drop l.i l.s) l.marks ≡ marked l.s no_marks)
-
-abbrev pub decreases-loop-i : goal.decreases-loop-i
-decreases-loop-i l = length l.s - l.i
+abbrev pub invariant-loop-octet : goal.invariant-loop-octet
+invariant-loop-octet l =
+    (length l.marks ≡ place_count) × (marked (drop l.octet-index l.octet-items) l.marks ≡ marked (take l.n (drop 1 l.value)) l.initial.marks)

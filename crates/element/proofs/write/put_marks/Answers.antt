@@ -1,20 +1,14 @@
--- `element::write::put_marks` meets its contract. The loop's invariant: the marks that are left, stored into b as it is now, are all of them
+-- `element::write::put_marks` meets its contract. The loop's invariant: the marks that are left, stored into `out` as it is now, are all of them stored into it as it was.
 use mathlib.Core.Bool.{false}
 use native.Mathlib.Omega.{arith}
-use Rattle.laws.proofs.Loops.{stored_room, stored_next}
-use Rattle.element.proofs.Typed.{marks_long}
 use Rattle.element.proofs.Rows.{marks_by_places}
+use Rattle.element.proofs.Writing.{puts_next, puts_done}
 use Rattle.element.proofs.write.put_marks.Goals as goal
 
-pub put_mark-o-requires : goal.put_mark-o-requires
-put_mark-o-requires c =
-    let l = c.loop-i in
-    let long = marks_long c.args.marks _ c.well_formed.1.1.0 in
-    stored_room marks_by_places false l.invariant.1 (omega arith) c.requires
+pub loop-identifier-preserved : goal.loop-identifier-preserved
+loop-identifier-preserved c =
+    let few = c.put_mark-end.ensures.few in
+    (omega arith, puts_next marks_by_places false c.loop-identifier.invariant.1 (omega arith) c.put_mark-end.ensures.put)
 
-pub loop-i-preserved : goal.loop-i-preserved
-loop-i-preserved c =
-    let p = c.put_mark-o in
-    let l = c.loop-i in
-    let long = marks_long c.args.marks _ c.well_formed.1.1.0 in
-    (omega arith, stored_next marks_by_places false l.invariant.1 (omega arith) p.new.b p.result p.ensures.1 p.ensures.0)
+pub returns-clause-put : goal.returns-clause-put
+returns-clause-put c = puts_done marks_by_places false c.loop-identifier.invariant.1 (omega arith)

@@ -1,11 +1,8 @@
-use Prim.Native.Nat.{◌-◌, ◌≤◌}
+use Prim.Native.Nat.{◌+◌, ◌*◌, ◌≤◌}
 use Rattle.laws.proofs.Loops.{Stored}
-use Rattle.filter.specs.Sizes.{place_count}
 use Rattle.element.specs.Write.{entries_from, entries_octets}
 use Rattle.element.proofs.write.put_row.Given as goal
 
-abbrev pub invariant-loop-i : goal.invariant-loop-i
-invariant-loop-i l = (l.i ≤ place_count) × Stored (λ k fs. entries_octets (entries_from k fs)) l.row l.initial.b l.at l.i l.b l.o
-
-abbrev pub decreases-loop-i : goal.decreases-loop-i
-decreases-loop-i l = place_count - l.i
+abbrev pub invariant-loop-identifier : goal.invariant-loop-identifier
+invariant-loop-identifier l =
+    (l.end ≤ l.at + 60 * l.identifier) × Stored (λ k fs. entries_octets (entries_from k fs)) l.row l.initial.out l.at l.identifier l.out l.end

@@ -1,16 +1,15 @@
 -- `element::write::write` meets its contract: each refusal is the definition's, and past them the octets are stored from the buffer's start.
 use mathlib.Core.Path.{◌≡◌, refl, sym, ap, ◌∙◌}
 use mathlib.Core.Bool.{true, false}
-use mathlib.Core.List.{List, ◌++◌}
-use Prim.Native.Nat.{ℕ, ◌≤◌, ◌<◌}
-use native.Mathlib.Nat.{zero-add}
+use mathlib.Core.List.{List}
+use Prim.Native.Nat.{ℕ, ◌+◌, ◌≤◌, ◌<◌}
 use native.Mathlib.Omega.{arith}
-use lib.ListN.{length, drop}
-use lib.Seq.{sets, sets-eq}
+use lib.ListN.{length, take, drop}
+use lib.Seq.{sets, sets-eq, take_at}
 use borrow.Author.Tests.{lt-leb, le-leb}
 use Rattle.element.specs.declared.answer.Element.{Element}
 use Rattle.element.specs.declared.write.Unwritten.TheVariants.{NotGiven, TooLong, NoRoom}
-use Rattle.element.specs.declared.write.Written.TheVariants.{Wrote}
+use Rattle.std.proofs.Common.{Ok}
 use Rattle.element.specs.Write.{octets_of, given, leaves, wrote, write_of}
 use Rattle.element.proofs.write.write.Goals as goal
 
@@ -31,31 +30,34 @@ module _ (e : Element) (b : List ℕ) where
   unfolding write_of
   written g l m = rw (g, le-leb (length (octets_of e)) 255 l, le-leb (length (octets_of e)) (length b) m)
 
-  stored : length (octets_of e) ≤ length b → sets b 0 (octets_of e) ≡ octets_of e ++ drop (length (octets_of e)) b
-  stored m =
-      sets-eq (octets_of e) b 0 (omega arith) ∙ ap (λ (k : ℕ). octets_of e ++ drop k b) (zero-add (length (octets_of e)))
+  -- the octets were put at the front of others
+  front : (others new : List ℕ) (n : ℕ) → new ≡ sets others 0 (octets_of e) → n ≡ length (octets_of e) → n ≤ length others → take n new ≡ octets_of e
+  front others new n p q l =
+      rw (p, sets-eq (octets_of e) others 0 (omega arith)) (take_at (octets_of e) (drop (0 + length (octets_of e)) others) n (sym q))
 
 pub returns-then-not-given_element : goal.returns-then-not-given_element
 returns-then-not-given_element c = rw (not_given _ _ (sym c.given_element.ensures ∙ c.if-not-given_element.true)) (refl, refl)
 
 pub returns-then-n-gt-LONGEST : goal.returns-then-n-gt-LONGEST
 returns-then-n-gt-LONGEST c =
-    let holds : given c.args.element ≡ true = sym c.given_element.ensures ∙ c.if-not-given_element.false in
     let a = c.args in
-    rw (too_long a.element a.buffer.now holds (omega arith)) (refl, refl)
+    let holds : given a.element.now ≡ true = sym c.given_element.ensures ∙ c.if-not-given_element.false in
+    let size = c.put_element-n.ensures.put.after in
+    rw (too_long a.element.now a.buffer.now holds (omega arith)) (refl, refl)
 
 pub returns-then-buffer-n : goal.returns-then-buffer-n
 returns-then-buffer-n c =
-    let holds : given c.args.element ≡ true = sym c.given_element.ensures ∙ c.if-not-given_element.false in
     let a = c.args in
-    rw (no_room a.element a.buffer.now holds (omega arith) (omega arith)) (refl, refl)
+    let holds : given a.element.now ≡ true = sym c.given_element.ensures ∙ c.if-not-given_element.false in
+    let size = c.put_element-n.ensures.put.after in
+    rw (no_room a.element.now a.buffer.now holds (omega arith) (omega arith)) (refl, refl)
 
 pub returns : goal.returns
 returns c =
-    let holds : given c.args.element ≡ true = sym c.given_element.ensures ∙ c.if-not-given_element.false in
     let a = c.args in
-    let w = written a.element a.buffer.now holds (omega arith) (omega arith) in
-    rw w (
-      ap Wrote c.element_size-n.ensures,
-      c.put_element.ensures ∙ stored a.element a.buffer.now (omega arith),
-    )
+    let holds : given a.element.now ≡ true = sym c.given_element.ensures ∙ c.if-not-given_element.false in
+    let size = c.put_element-n.ensures.put.after in
+    let w = written a.element.now a.buffer.now holds (omega arith) (omega arith) in
+    let put = front a.element.now a.buffer.now _ _ c.put_element-n.result c.put_element-n.ensures.put.stored (omega arith) (omega arith) in
+    let long : c.put_element-n.result ≡ length (octets_of a.element.now) = omega arith in
+    rw w (ap Ok long, rw (c.copy_from_slice.ensures.after, put, long) refl)
