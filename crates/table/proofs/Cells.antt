@@ -2,17 +2,19 @@
 use mathlib.Core.Path.{◌≡◌, refl, sym, ◌∙◌, ap, subst}
 use mathlib.Core.Bool.{Bool, true, false, not, ◌&&◌, and-true, and-false}
 use mathlib.Core.Logic.{⊎_elim}
-use mathlib.Core.List.{List}
-use Prim.Native.Nat.{ℕ, ◌+◌, ◌*◌, ◌/◌, ◌%◌, ◌<◌, ◌≤◌}
+use mathlib.Core.List.{List, ◌++◌}
+use Prim.Native.Nat.{ℕ, ◌+◌, ◌-◌, ◌*◌, ◌/◌, ◌%◌, ◌<◌, ◌≤◌}
 use native.Mathlib.Nat.{add-zero}
 use native.Mathlib.Omega.{arith}
 use lib.Dec.{eqb}
-use lib.ListN.{length, get_or, set, length-set}
+use lib.ListN.{length, get_or, take, drop, set, replicate, length-set, length-append}
 use borrow.Author.Tests.{eqb-true, eqb-false, eq-eqb, ne_eqb}
 use Rattle.laws.specs.Says.{pick}
-use Rattle.laws.specs.Index.{any_below, last_below, walk, sum_below, count_below}
-use Rattle.laws.proofs.Index.{done, tab_is, set_seen, walk_long, walk_more}
-use Rattle.laws.proofs.Counts.{sum_same, count_more, count_same, count_parts}
+use Rattle.laws.specs.Index.{any_below, last_below, walk, one, count_below}
+use Rattle.laws.proofs.Index.{done, tab_is, set_seen, walk_keeps, walk_long, walk_more}
+use Rattle.std.proofs.lemmas.Bool.{cases_lt}
+use Rattle.std.proofs.lemmas.List.{length-take, length-take-le, length-drop, length-replicate, get_or_append_left, get_or-append_right, get_or-take, get_or-drop, get_or-replicate}
+use Rattle.laws.proofs.Counts.{sum_split, count_more, count_same}
 use Rattle.laws.proofs.Lasts.{Last, NoLast, last_cases, last_else, last_none, last_same, last_map, last_walk}
 use Rattle.laws.proofs.Says.{never, picked, says_eq, says_same, says_so}
 use Rattle.laws.proofs.Tests.{both}
@@ -26,7 +28,7 @@ use Rattle.table.specs.Bearers.{bearer_count, is_identity, index_of, identity_of
 use Rattle.table.specs.Lists.{is_uplink, nothing, place_has, bearer_has, entry_of, entry_in, entry_at, cell_of, encoded, held_count, cell_at}
 use Rattle.table.specs.Ranges.{TableInRange}
 use Rattle.table.specs.Tables.{relisted_at, relisted_of}
-use Rattle.table.specs.Inner.Lists.{begins_at, cleared_at, cleared, cleared_by, put_filter, put_row, touches, put_bearer, names_at}
+use Rattle.table.specs.Inner.Lists.{begins_at, cleared, cleared_by, put_filter, put_row, touches, put_bearer, names_at}
 use Rattle.table.proofs.Meaning.{range_says}
 
 abbrev pub Long : List ℕ → Type 0
@@ -46,6 +48,10 @@ only_last p a d n k l one = ⊎_elim (λ h. h.is ∙ found h) (λ h. h.is ∙ mi
         go true e = absurd (h.none k l e)
         go false e = refl
 
+cleared_long : (i : ℕ) (cells : List ℕ) → i < bearer_count → Long cells → Long (cleared (i * precedence_count) cells)
+unfolding cleared
+cleared_long i cells l long = simp (length-append, length-take, length-drop) (omega (arith, long, length-replicate {A = ℕ} precedence_count 0))
+
 module _ (n : ℕ) (small : n < held_count) where
   abbrev at : List ℕ → ℕ
   at cells = get_or cells n 0
@@ -62,35 +68,54 @@ module _ (n : ℕ) (small : n < held_count) where
   set_at false cells k v long = (long, refl)
 
   -- ---- lists emptied
-  cleared_at_lem : (i : ℕ) (cells : List ℕ) → Long cells → Long (cleared (i * precedence_count) cells) × (at (cleared (i * precedence_count) cells) ≡ pick (eqb d i) 0 (at cells))
-  unfolding cleared cleared_at
-  cleared_at_lem i cells long =
-      let (z, e) = last_walk (λ k. eqb (i * precedence_count + k) n) (λ k. 0) Long at (cleared_at (i * precedence_count)) cells precedence_count long
-      (λ k s l g. set_at true s (i * precedence_count + k) 0 g) in (
-        z,
-        e ∙ only_last (λ k. eqb (i * precedence_count + k) n) 0 (at cells) precedence_count p (omega arith)
-            (λ k l h. let q = eqb-true (i * precedence_count + k) n h in omega arith) ∙ ap (λ (b : Bool). pick b 0 (at cells)) same,
-      )
+  cleared_at_lem : (i : ℕ) (cells : List ℕ) → i < bearer_count → Long cells → at (cleared (i * precedence_count) cells) ≡ pick (eqb d i) 0 (at cells)
+  unfolding cleared
+  cleared_at_lem i cells l long = ⊎_elim before (λ m. ⊎_elim (inside m) after (cases_lt n (from + precedence_count))) (cases_lt n from)
     where
-      same : eqb (i * precedence_count + p) n ≡ eqb d i
-      same = says_same (says_so (says_eq (i * precedence_count + p) n) (λ q. let r : d ≡ i = omega arith in r) (λ q. omega arith)) (says_eq d i)
+      from : ℕ
+      from = i * precedence_count
+
+      front : length (take from cells) ≡ from
+      front = length-take-le from cells (omega (arith, long))
+
+      rest : List ℕ
+      rest = replicate precedence_count 0 ++ drop precedence_count (drop from cells)
+
+      before : n < from → get_or (take from cells ++ rest) n 0 ≡ pick (eqb d i) 0 (at cells)
+      before m = rw (ne_eqb d i (λ e. omega (arith, e))) (get_or_append_left (take from cells) rest 0 n (omega (arith, front)) ∙ get_or-take from cells n 0 m)
+
+      inside : from ≤ n → n < from + precedence_count → get_or (take from cells ++ rest) n 0 ≡ pick (eqb d i) 0 (at cells)
+      inside m o =
+          rw (eq-eqb d i (omega arith))
+          (get_or-append_right (take from cells) rest from n 0 front m
+          ∙ get_or_append_left (replicate precedence_count 0) (drop precedence_count (drop from cells)) 0 (n - from) (omega (arith, length-replicate {A = ℕ} precedence_count 0))
+          ∙ get_or-replicate precedence_count (n - from) 0 0 (omega arith))
+
+      after : from + precedence_count ≤ n → get_or (take from cells ++ rest) n 0 ≡ pick (eqb d i) 0 (at cells)
+      after o =
+          rw (ne_eqb d i (λ e. omega (arith, e)))
+          (get_or-append_right (take from cells) rest from n 0 front (omega arith)
+          ∙ get_or-append_right (replicate precedence_count 0) (drop precedence_count (drop from cells)) precedence_count (n - from) 0 (length-replicate {A = ℕ} precedence_count 0) (omega arith)
+          ∙ get_or-drop precedence_count (drop from cells) (n - from - precedence_count) 0
+          ∙ get_or-drop from cells (precedence_count + (n - from - precedence_count)) 0
+          ∙ (let q : from + (precedence_count + (n - from - precedence_count)) ≡ n = omega arith in ap (λ (k : ℕ). get_or cells k 0) q))
 
   module _ (touched : List Bool) where
     abbrev is : Bool
     is = get_or touched d false
 
-    cleared_by_lem : (i : ℕ) (cells : List ℕ) → Long cells → Long (cleared_by touched cells i) × (at (cleared_by touched cells i) ≡ pick (get_or touched i false && eqb d i) 0 (at cells))
+    cleared_by_lem : (i : ℕ) (cells : List ℕ) → i < bearer_count → Long cells → Long (cleared_by touched cells i) × (at (cleared_by touched cells i) ≡ pick (get_or touched i false && eqb d i) 0 (at cells))
     unfolding cleared_by
-    cleared_by_lem i cells long = go (get_or touched i false)
+    cleared_by_lem i cells l long = go (get_or touched i false)
       where
         go : (b : Bool) → let after = pick b (cleared (i * precedence_count) cells) cells in Long after × (at after ≡ pick (b && eqb d i) 0 (at cells))
-        go true = cleared_at_lem i cells long
+        go true = (cleared_long i cells l long, cleared_at_lem i cells l long)
         go false = (long, refl)
 
     -- those touched are empty
     emptied_at : (cells : List ℕ) → Long cells → Long (walk (cleared_by touched) cells bearer_count) × (at (walk (cleared_by touched) cells bearer_count) ≡ pick is 0 (at cells))
     emptied_at cells long =
-        let (z, e) = last_walk (λ i. get_or touched i false && eqb d i) (λ i. 0) Long at (cleared_by touched) cells bearer_count long (λ i s l g. cleared_by_lem i s g) in (
+        let (z, e) = last_walk (λ i. get_or touched i false && eqb d i) (λ i. 0) Long at (cleared_by touched) cells bearer_count long (λ i s l g. cleared_by_lem i s l g) in (
           z,
           e ∙ only_last (λ i. get_or touched i false && eqb d i) 0 (at cells) bearer_count d (omega arith)
               (λ i l h. sym (eqb-true d i (both (get_or touched i false) (eqb d i) h).1)) ∙ ap (λ (b : Bool). pick b 0 (at cells)) same,
@@ -206,19 +231,6 @@ made_lists t touched ok =
 kept : (b : Bool) (ys xs : List ℕ) → length ys ≡ length xs → length (pick b ys xs) ≡ length xs
 kept b ys xs e = picked (λ (zs : List ℕ). length zs ≡ length xs) b ys xs e refl
 
-module _ (from : ℕ) (before : List ℕ) where
-  pub cleared_long : (p : ℕ) → length (walk (cleared_at from) before p) ≡ length before
-  unfolding cleared_at
-  cleared_long p = walk_long (cleared_at from) (λ cells k. length-set cells (from + k) 0) before p
-
-  pub clear_more : (p : ℕ) {cells : List ℕ} → cells ≡ walk (cleared_at from) before p → set cells (from + p) 0 ≡ walk (cleared_at from) before (p + 1)
-  unfolding cleared_at
-  clear_more p {cells} e = walk_more (cleared_at from) before p cells _ refl e
-
-  pub clear_done : (p : ℕ) {cells : List ℕ} → precedence_count ≤ p → p ≤ precedence_count → cells ≡ walk (cleared_at from) before p → cells ≡ cleared from before
-  unfolding cleared
-  clear_done p l m e = done (walk (cleared_at from) before) p precedence_count _ l m e
-
 module _ (row : List Filter) (from bearer : ℕ) where
   filter_long : (cells : List ℕ) (j : ℕ) → length (put_filter row from bearer cells j) ≡ length cells
   unfolding put_filter
@@ -247,12 +259,12 @@ module _ (row : List Filter) (from bearer : ℕ) where
 
 -- ---- the lists of the identities touched, emptied one after the other
 module _ (touched : List Bool) (before : List ℕ) where
-  by_long : (cells : List ℕ) (i : ℕ) → length (cleared_by touched cells i) ≡ length cells
-  unfolding cleared_by cleared
-  by_long cells i = kept (get_or touched i false) _ cells (cleared_long (i * precedence_count) cells precedence_count)
+  by_long : (i : ℕ) (cells : List ℕ) → i < bearer_count → Long cells → Long (cleared_by touched cells i)
+  unfolding cleared_by
+  by_long i cells l long = picked Long (get_or touched i false) _ cells (cleared_long i cells l long) long
 
-  pub emptied_long : (i : ℕ) → length (walk (cleared_by touched) before i) ≡ length before
-  emptied_long i = walk_long (cleared_by touched) by_long before i
+  pub emptied_long : (i : ℕ) → i ≤ bearer_count → Long before → Long (walk (cleared_by touched) before i)
+  emptied_long i l long = walk_keeps (cleared_by touched) before (λ (k : ℕ) (cells : List ℕ). Long cells) i long (λ k cells m so. by_long k cells (omega arith) so)
 
   module _ (i : ℕ) {cells : List ℕ} (so : cells ≡ walk (cleared_by touched) before i) where
     pub empty_more : {after : List ℕ} → get_or touched i false ≡ true → after ≡ cleared (i * precedence_count) cells → after ≡ walk (cleared_by touched) before (i + 1)
@@ -314,12 +326,20 @@ module _ (cells : List ℕ) (from p : ℕ) {count : ℕ} (so : count ≡ count_b
   unfolding names_at
   names_skip e = count_more (names_at cells from) p count count (rw e (sym (add-zero count))) so
 
--- part by part
-pub parts_named : (cells : List ℕ) → sum_below (λ k. count_below (names_at cells (k * 128)) 128) 22 ≡ count_below (names_at cells 0) held_count
-unfolding names_at
-parts_named cells =
-    sum_same (λ k. count_below (names_at cells (k * 128)) 128) (λ k. count_below (λ i. names_at cells 0 (k * 128 + i)) 128) 22 (λ k l. count_same (names_at cells (k * 128)) (λ i. names_at cells 0 (k * 128 + i)) 128 (λ i m. same k i))
-    ∙ count_parts (names_at cells 0) 128 22
+-- in a part, and in the rest after it
+pub names_apart : (part rest : List ℕ) {cells : List ℕ} {n : ℕ} → cells ≡ part ++ rest → length part ≡ n
+    → count_below (names_at cells 0) (length cells) ≡ count_below (names_at part 0) n + count_below (names_at rest 0) (length rest)
+unfolding names_at count_below
+names_apart part rest {cells} {n} e long =
+    ap (λ (xs : List ℕ). count_below (names_at xs 0) (length xs)) e
+    ∙ ap (count_below (names_at (part ++ rest) 0)) (length-append part rest ∙ ap (λ (k : ℕ). k + length rest) long)
+    ∙ sum_split (λ i. one (names_at (part ++ rest) 0 i)) n (length rest)
+    ∙ (λ i. front i + back i)
   where
-    same : (k i : ℕ) → names_at cells (k * 128) i ≡ names_at cells 0 (k * 128 + i)
-    same k i = ap (λ (n : ℕ). not (eqb (get_or cells n 0) 0)) (let q : k * 128 + i ≡ 0 + (k * 128 + i) = omega arith in q)
+    front : count_below (names_at (part ++ rest) 0) n ≡ count_below (names_at part 0) n
+    front = count_same (names_at (part ++ rest) 0) (names_at part 0) n (λ i l. ap (λ (x : ℕ). not (eqb x 0)) (get_or_append_left part rest 0 (0 + i) (omega (arith, long))))
+
+    back : count_below (λ i. names_at (part ++ rest) 0 (n + i)) (length rest) ≡ count_below (names_at rest 0) (length rest)
+    back =
+        count_same (λ i. names_at (part ++ rest) 0 (n + i)) (names_at rest 0) (length rest)
+        (λ i l. ap (λ (x : ℕ). not (eqb x 0)) (get_or-append_right part rest n (0 + (n + i)) 0 long (omega arith) ∙ ap (λ (k : ℕ). get_or rest k 0) (let q : 0 + (n + i) - n ≡ 0 + i = omega arith in q)))

@@ -9,3 +9,4 @@ pub mod Typed
 pub mod Walks
 pub mod Within
 pub mod Rules
+pub mod Rows

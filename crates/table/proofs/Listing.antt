@@ -1,4 +1,4 @@
--- The list has at each position what document 01 says: the connection's uplink filter of that precedence with its bearer, or nothing.
+-- The list has at each position what it is to have: the connection's uplink filter of that precedence with its bearer, or nothing.
 use mathlib.Core.Path.{◌≡◌, refl, sym, ◌∙◌, ap, ap₂, subst}
 use mathlib.Core.Bool.{Bool, true, false, false≢true}
 use mathlib.Core.Logic.{◌⊎◌, inl, inr, ⊎_elim}

@@ -222,7 +222,7 @@ module _ (t : Table) (ok : TableInRange t) where
       (λ h. tab_is 0 (cell_at t.bearers) t.lists held_count ok.lists.count h)
       (λ e n l. ap (λ (cells : List ℕ). get_or cells n 0) e ∙ tab_at (cell_at t.bearers) held_count n 0 l)
 
-  -- the test is true exactly for the well-formed tables of document 01
+  -- the test is true exactly for the well-formed tables
   pub well_says : Says (well_formed t) (WellFormed t)
   unfolding well_formed
   well_says = says_so (says_and bearers_say lists_say) (λ h. record { bearers = h.0; lists = h.1 }) (λ w. (w.bearers, w.lists))

@@ -5,3 +5,4 @@ pub mod Ranges
 pub mod Tables
 pub mod WellFormed
 pub mod Inner
+pub mod Changes

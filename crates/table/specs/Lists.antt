@@ -42,7 +42,7 @@ entry_in bs p i = last_below (place_has bs p i) (entry_of (identity_of i)) nothi
 unfoldable pub entry_at : List Bearer → ℕ → ℕ → Entry
 entry_at bs default p = last_below (bearer_has bs default p) (entry_in bs p) nothing bearer_count
 
--- ---- Document 02, 7/14: "Hold each connection's list with the table, as bearer and identifier."
+-- ---- "Hold each connection's list with the table, as bearer and identifier."
 -- an entry as an octet: the bearer's identity in the upper half, the identifier in the lower; 0 names nothing
 abbrev pub cell_of : ℕ → ℕ → ℕ
 cell_of bearer place = bearer * place_count + place

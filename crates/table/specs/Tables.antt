@@ -12,8 +12,8 @@ use Rattle.table.specs.declared.bearer.Table.{Table}
 use Rattle.table.specs.Bearers.{bearer_count, identity_of, role_at, transaction_at, filter_at}
 use Rattle.table.specs.Lists.{held_count, cell_at, lists_of}
 
--- Document 02, 7/14: "the held lists are those that document 01's rule gives for the table then held": every table that a call makes is made so, and what a
--- call does is said of its bearers alone; a refusal hands back the table that came
+-- The held lists are those that the rule gives for the table then held: every table that a call makes is made so, and what a call does is said of its bearers
+-- alone; a refusal hands back the table that came
 abbrev pub table_of : List Bearer → Table
 table_of bearers = record { bearers = bearers; lists = lists_of bearers }
 

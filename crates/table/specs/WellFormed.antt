@@ -77,7 +77,7 @@ unfoldable pub bearers_fine : Table → Bool
 bearers_fine t = all_below (bearer_fine t) bearer_count && distinct_transactions t && distinct_precedences t
 
 -- ---- the lists
--- Document 02, 7/14: "A table whose list is false is not well formed": octet n is the rule's
+-- "A table whose list is false is not well formed": octet n is the rule's
 unfoldable pub cell_right : Table → ℕ → Bool
 cell_right t n = eqb (get_or t.lists n 0) (cell_at t.bearers n)
 

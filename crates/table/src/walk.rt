@@ -1,167 +1,126 @@
 // One walk over the bearers of a table and all their filters.
-ghost use Rattle.std.specs.Prelude.{◌≡◌, true, false, not, ◌&&◌, ◌+◌, ◌≤◌, length};
-ghost use Rattle.laws.specs.Index.{all_below, one, sum_below, count_below};
+ghost use Rattle.std.specs.Prelude.{◌≡◌, ◌+◌, ◌≤◌, length, OnSome};
+ghost use Rattle.std.specs.List.{list_all};
 ghost use Rattle.filter.specs.Coding.{empty_place};
-ghost use Rattle.filter.specs.Fittable.{place_fine};
-ghost use Rattle.filter.specs.Sizes.{place_count, precedence_count};
-ghost use Rattle.table.specs.Bearers.{bearer_count, last_identity};
-ghost use Rattle.table.specs.Lists.{is_uplink, held_count};
-ghost use Rattle.table.specs.WellFormed.{transaction_fine, filter_fine, row_precedences};
-ghost use Rattle.table.specs.Inner.Walk.{link_in, precedence_of, marked_with, marks_at, Told};
-ghost use Rattle.table.specs.Inner.Lists.{filter_told, place_told, up_in, bare, bearer_told, uplinks_at};
+ghost use Rattle.filter.specs.Sizes.{precedence_count};
+ghost use Rattle.table.specs.Bearers.{last_identity};
+ghost use Rattle.table.specs.WellFormed.{link_fine, transaction_fine, row_precedences};
+ghost use Rattle.table.specs.Inner.Walk.{precedence_of, marked_with};
+ghost use Rattle.table.specs.Inner.Lists.{place_uplinks, row_uplinks, uplinks_if_fine};
 
-use crate::bearer::{
-    BEARERS, Bearer, FIRST_IDENTITY, LAST_TRANSACTION, Role, connection_of, index_of, is_identity,
-    is_idle,
-};
+use crate::bearer::{BEARERS, FIRST_IDENTITY, LAST_TRANSACTION, Role, Table};
 use crate::list::{begins_at, cell_of};
 use crate::marks::{bit_of, marked_before};
 use filter::Filter;
-use filter::coding::{empty_place, held, uplink};
 use filter::component::{PLACES, PRECEDENCES};
-use filter::sample::place_fine;
 
-#[tactic(auto, using(crate::proofs::Walks::in_eleven))]
-fn link_fine(defaults: [bool; BEARERS], role: Role) -> bool
-    ensures { result ≡ link_in defaults role }
+fn transaction_fine(idle: bool, transaction: u8) -> bool
+    ensures { result ≡ transaction_fine idle transaction }
 {
-    match role {
-        Role::Idle => true,
-        Role::Default => true,
-        Role::Dedicated(link) => {
-            if is_identity(link) {
-                defaults[index_of(link)]
-            } else {
-                false
-            }
-        }
-    }
+    (!idle || transaction == 0) && transaction <= LAST_TRANSACTION
 }
 
-fn transaction_fine(idle: bool, x: u8) -> bool
-    ensures { result ≡ transaction_fine idle x }
-{
-    (!idle | (x == 0)) & (x <= LAST_TRANSACTION)
-}
-
-// Whether all was fine, and how many uplink filters were seen.
-#[derive(Clone, Copy)]
-pub(crate) struct Found {
-    pub(crate) fine: bool,
-    pub(crate) uplinks: u16,
-}
-
-fn one(up: bool) -> u16
-    ensures { result ≡ one up }
-{
-    if up { 1 } else { 0 }
-}
-
-// Also this filter may stand in its place, none of its connection has its precedence so far, and if it is for the uplink it stands in its list, which
-// begins at `from`.
-#[tactic(auto, using(crate::proofs::Walks::found_held, crate::proofs::Walks::found_unheld, crate::proofs::Walks::one_le))]
-fn filter_fine(
+// How many uplink filters a place has, none or one, where what it holds may stand there, none of its connection has its precedence so far, and if it is for the
+// uplink it stands in its list, which begins at `from`.
+#[tactic(auto, using(crate::proofs::Walks::fine_never, crate::proofs::Walks::unheld_counts, crate::proofs::Walks::again_never, crate::proofs::Walks::down_counts, crate::proofs::Walks::missing_never, crate::proofs::Walks::up_counts))]
+fn place_uplinks(
     seen: &mut [u16],
     bit: u16,
     lists: &[u8],
     from: usize,
     cell: u8,
-    f: Filter,
-    found: Found,
-) -> Found
-    requires { (length seen.old ≡ precedence_count) × (from + precedence_count ≤ length lists.now) × (found.uplinks ≤ place_count) }
-    ensures { (result.fine ≡ found.fine && filter_told bit seen.old lists.now from cell f)
-        × (seen.new ≡ (marked_with bit seen.old (precedence_of f)).seen) × (result.uplinks ≡ found.uplinks + one (is_uplink f)) }
+    filter: &Filter,
+) -> Option<u16>
+    requires { (length seen.old ≡ precedence_count) × (from + precedence_count ≤ length lists.now) }
+    ensures count { result ≡ place_uplinks bit seen.old lists.now from cell filter.now }
+    ensures marks { OnSome result (seen.new ≡ (marked_with bit seen.old (precedence_of filter.now)).seen) }
 {
-    let fine = place_fine(f);
-    let holds = held(f);
-    if holds {
-        let p = f.precedence as usize;
-        let again = marked_before(seen, p, bit);
-        let up = uplink(f);
-        let there = lists[from + p];
-        Found {
-            fine: found.fine & fine & !again & (!up | (there == cell)),
-            uplinks: found.uplinks + one(up),
-        }
-    } else {
-        Found {
-            fine: found.fine & fine,
-            uplinks: found.uplinks,
-        }
+    if !filter.place_fine() {
+        return None;
     }
-}
-
-#[tactic(auto, using(crate::proofs::Walks::row_done, crate::proofs::Walks::row_few, crate::proofs::Walks::row_long, crate::proofs::Walks::row_more, crate::proofs::Walks::row_start))]
-fn row_fine(seen: &mut [u16], bit: u16, lists: &[u8], from: usize, bearer: u8, b: Bearer) -> Found
-    requires { (length seen.old ≡ precedence_count) × (from + precedence_count ≤ length lists.now) × (bearer ≤ last_identity) }
-    ensures { Told (all_below (place_told lists.now from bearer b.row) place_count) (marked_with bit seen.old (row_precedences b.row)) result.fine seen.new
-        × (result.uplinks ≡ count_below (up_in b.row) place_count) }
-{
-    let mut found = Found {
-        fine: true,
-        uplinks: 0,
-    };
-    for j in 0..PLACES {
-        let f = b.row[j];
-        found = filter_fine(seen, bit, lists, from, cell_of(bearer, j), f, found);
+    if !filter.held() {
+        return Some(0);
     }
-    found
+    let precedence = filter.precedence as usize;
+    if marked_before(seen, precedence, bit) {
+        return None;
+    }
+    if !filter.uplink() {
+        return Some(0);
+    }
+    if lists[from + precedence] != cell {
+        return None;
+    }
+    Some(1)
 }
 
-fn four_empty(a: Filter, b: Filter, c: Filter, d: Filter) -> bool
-    ensures { result ≡ empty_place a && empty_place b && empty_place c && empty_place d }
-{
-    empty_place(a) & empty_place(b) & empty_place(c) & empty_place(d)
-}
-
-// Written out, since an index that is a literal asks for no copy of the row; most bearers are idle. By fours, since more at a time go over the stack.
-#[tactic(auto, using(crate::proofs::Walks::by_fours, crate::proofs::Walks::four, crate::proofs::Walks::four_idle, crate::proofs::Walks::then_and))]
-fn holds_nothing(b: Bearer) -> bool
-    ensures { result ≡ all_below (filter_fine true b.row) place_count }
-{
-    four_empty(b.row[0], b.row[1], b.row[2], b.row[3])
-        && four_empty(b.row[4], b.row[5], b.row[6], b.row[7])
-        && four_empty(b.row[8], b.row[9], b.row[10], b.row[11])
-        && four_empty(b.row[12], b.row[13], b.row[14], b.row[15])
-}
-
-// The bearers by themselves: with the lists beside them, a table would be copied once more.
-#[tactic(auto, using(crate::proofs::Walks::active_more, crate::proofs::Cells::begins_inside, laws::proofs::Counts::count_le, crate::proofs::Walks::idle_more, crate::proofs::Walks::table_done, crate::proofs::Walks::table_few, crate::proofs::Walks::table_long, crate::proofs::Walks::table_start))]
-pub(crate) fn bearers_fine(
-    bearers: [Bearer; BEARERS],
-    links: [bool; BEARERS],
+// How many uplink filters a row has, where all of it is fine.
+#[tactic(auto, using(crate::proofs::Walks::row_long))]
+fn row_uplinks(
+    seen: &mut [u16],
+    bit: u16,
     lists: &[u8],
-) -> Found
-    requires { length lists.now ≡ held_count }
-    ensures { (result.fine ≡ all_below (bearer_told links lists.now (bare bearers)) bearer_count && not (marks_at (bare bearers) bearer_count).again)
-        × (result.uplinks ≡ sum_below (uplinks_at (bare bearers)) bearer_count) }
+    from: usize,
+    bearer: u8,
+    row: &[Filter; PLACES],
+) -> Option<u16>
+    requires { (length seen.old ≡ precedence_count) × (from + precedence_count ≤ length lists.now) × (bearer ≤ last_identity) }
+    ensures count { result ≡ row_uplinks bit seen.old lists.now from bearer row.now }
+    ensures marks { OnSome result (seen.new ≡ (marked_with bit seen.old (row_precedences row.now)).seen) }
 {
-    let mut seen = [0; PRECEDENCES];
-    let mut fine = true;
-    let mut uplinks: u16 = 0;
-    for i in 0..BEARERS {
-        let b = bearers[i];
-        let role = b.role;
-        let idle = is_idle(role);
-        fine = fine & transaction_fine(idle, b.transaction) & link_fine(links, role);
-        if idle {
-            // Not b: that goes to `row_fine`, which indexes its row by a variable, and so is copied.
-            let c = bearers[i];
-            fine = fine & holds_nothing(c);
-        } else {
-            let connection = connection_of(i, role);
-            let found = row_fine(
-                &mut seen[..],
-                bit_of(connection),
-                lists,
-                begins_at(connection),
-                i as u8 + FIRST_IDENTITY,
-                b,
-            );
-            fine = fine & found.fine;
-            uplinks += found.uplinks;
+    let mut uplinks = 0;
+    for (j, filter) in row.iter().enumerate() {
+        uplinks += place_uplinks(seen, bit, lists, from, cell_of(bearer, j), filter)?;
+    }
+    Some(uplinks)
+}
+
+fn holds_nothing(row: &[Filter; PLACES]) -> bool
+    ensures { result ≡ list_all empty_place row.now }
+{
+    row.iter().all(|filter| filter.empty_place())
+}
+
+impl Table {
+    fn link_fine(&self, role: Role) -> bool
+        ensures { result ≡ link_fine self.now role }
+    {
+        match role {
+            Role::Idle | Role::Default => true,
+            Role::Dedicated(link) => self.role_of(link).is_default(),
         }
     }
-    Found { fine, uplinks }
+
+    // How many uplink filters the bearers have, where all is fine of each by itself and no precedence is there twice.
+    #[tactic(auto, using(crate::proofs::Cells::begins_inside, crate::proofs::Walks::table_long, crate::proofs::Walks::table_done))]
+    pub(crate) fn uplinks_if_fine(&self) -> Option<u16>
+        ensures { result ≡ uplinks_if_fine self.now }
+    {
+        self.typed();
+        let mut seen = [0; PRECEDENCES];
+        let mut uplinks: u16 = 0;
+        for (i, bearer) in self.bearers.iter().enumerate() {
+            let role = bearer.role;
+            let idle = role.is_idle();
+            if !transaction_fine(idle, bearer.transaction) || !self.link_fine(role) {
+                return None;
+            }
+            if idle {
+                if !holds_nothing(&bearer.row) {
+                    return None;
+                }
+            } else {
+                let connection = role.connection(i);
+                uplinks += row_uplinks(
+                    &mut seen,
+                    bit_of(connection),
+                    &self.lists,
+                    begins_at(connection),
+                    i as u8 + FIRST_IDENTITY,
+                    &bearer.row,
+                )?;
+            }
+        }
+        Some(uplinks)
+    }
 }

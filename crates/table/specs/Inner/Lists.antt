@@ -1,28 +1,25 @@
 -- How the code makes and tests lists: what its inner functions give. Nothing here is claimed of a table; the proofs tie it to Lists and WellFormed.
-use Rattle.std.specs.Prelude.{ℕ, ◌+◌, ◌*◌, Bool, false, not, ◌&&◌, ◌||◌, List, [], eqb, get_or, set}
+use Rattle.std.specs.Prelude.{ℕ, ◌+◌, ◌*◌, Bool, false, not, ◌&&◌, ◌||◌, List, ◌++◌, eqb, get_or, take, drop, set, replicate, Option, None, Some}
 use Rattle.laws.specs.Says.{pick}
-use Rattle.laws.specs.Index.{imp, all_below, count_below, walk}
+use Rattle.laws.specs.Index.{imp, all_below, one, sum_below, count_below, walk}
 use Rattle.filter.specs.declared.component.Filter.{Filter}
 use Rattle.filter.specs.Fittable.{place_fine}
 use Rattle.filter.specs.Sizes.{place_count, precedence_count}
 use Rattle.table.specs.declared.bearer.Bearer.{Bearer}
 use Rattle.table.specs.declared.bearer.Table.{Table}
-use Rattle.table.specs.Bearers.{is_identity, index_of, identity_of, bearer_from, bearer_at, in_row, role_at, is_idle, connection_from, connection_at}
+use Rattle.table.specs.Bearers.{bearer_count, is_identity, index_of, identity_of, bearer_from, bearer_at, in_row, role_at, is_idle, connection_from, connection_at}
 use Rattle.table.specs.Lists.{is_uplink, cell_of}
-use Rattle.table.specs.WellFormed.{filter_fine}
-use Rattle.table.specs.Inner.Walk.{precedence_of, marked_with, fine_at}
+use Rattle.table.specs.WellFormed.{filter_fine, bearer_fine, row_precedences}
+use Rattle.table.specs.Inner.Walk.{precedence_of, marked_with, marks_at}
 
 -- where the list of a connection begins; 0 where no default can have that identity
 unfoldable pub begins_at : ℕ → ℕ
 begins_at connection = pick (is_identity connection) (index_of connection * precedence_count) 0
 
 -- ---- lists made
--- one emptied, position by position
-unfoldable pub cleared_at : ℕ → List ℕ → ℕ → List ℕ
-cleared_at from cells p = set cells (from + p) 0
-
+-- one emptied
 unfoldable pub cleared : ℕ → List ℕ → List ℕ
-cleared from cells = walk (cleared_at from) cells precedence_count
+cleared from cells = take from cells ++ (replicate precedence_count 0 ++ drop precedence_count (drop from cells))
 
 unfoldable pub cleared_by : List Bool → List ℕ → ℕ → List ℕ
 cleared_by touched cells i = pick (get_or touched i false) (cleared (i * precedence_count) cells) cells
@@ -74,10 +71,19 @@ bearer_stands cells t i = is_idle (role_at t i) || all_below (place_stands cells
 unfoldable pub uplinks_at : Table → ℕ → ℕ
 uplinks_at t i = pick (is_idle (role_at t i)) 0 (count_below (up_in (bearer_at t i).row) place_count)
 
--- bearers without their lists
-abbrev pub bare : List Bearer → Table
-bare bs = record { bearers = bs; lists = [] }
-
 -- a bearer is fine, and its filters stand
-unfoldable pub bearer_told : List Bool → List ℕ → Table → ℕ → Bool
-bearer_told links cells t i = fine_at links t i && bearer_stands cells t i
+unfoldable pub bearer_told : Table → ℕ → Bool
+bearer_told t i = bearer_fine t i && bearer_stands t.lists t i
+
+-- how many uplink filters a place has, where its filter is fine, stands, and its precedence was not marked
+unfoldable pub place_uplinks : ℕ → List ℕ → List ℕ → ℕ → ℕ → Filter → Option ℕ
+place_uplinks bit seen cells from cell f = pick (filter_told bit seen cells from cell f) (Some (one (is_uplink f))) None
+
+-- .. how many a row has
+unfoldable pub row_uplinks : ℕ → List ℕ → List ℕ → ℕ → ℕ → List Filter → Option ℕ
+row_uplinks bit seen cells from bearer row =
+    pick (all_below (place_told cells from bearer row) place_count && not (marked_with bit seen (row_precedences row)).again) (Some (count_below (up_in row) place_count)) None
+
+-- .. and how many all bearers have
+unfoldable pub uplinks_if_fine : Table → Option ℕ
+uplinks_if_fine t = pick (all_below (bearer_told t) bearer_count && not (marks_at t bearer_count).again) (Some (sum_below (uplinks_at t) bearer_count)) None

@@ -1,42 +1,15 @@
 -- How the code walks: what its inner functions give. Nothing here is claimed of a table; the proofs tie it to WellFormed.
-use Rattle.std.specs.Prelude.{◌≡◌, ℕ, ◌^◌, Bool, true, false, not, ◌&&◌, ◌||◌, List, [], ◌∷◌, eqb, get_or, set, replicate}
+use Rattle.std.specs.Prelude.{ℕ, ◌^◌, Bool, false, not, ◌||◌, List, [], ◌∷◌, eqb, get_or, set, replicate}
 use Rattle.std.specs.Int.Bits.{bit_and, bit_or}
 use Rattle.laws.specs.Says.{pick}
-use Rattle.laws.specs.Index.{imp, all_below, walk}
+use Rattle.laws.specs.Index.{walk}
 use Rattle.laws.specs.Lists.{fold}
 use Rattle.filter.specs.declared.component.Filter.{Filter}
 use Rattle.filter.specs.Coding.{held}
-use Rattle.filter.specs.Sizes.{precedence_count, place_count}
-use Rattle.table.specs.declared.bearer.Role.{Role}
-use Rattle.table.specs.declared.bearer.Role.TheVariants.{Idle, Default, Dedicated}
-use Rattle.table.specs.declared.bearer.Bearer.{Bearer}
+use Rattle.filter.specs.Sizes.{precedence_count}
 use Rattle.table.specs.declared.bearer.Table.{Table}
-use Rattle.table.specs.Bearers.{bearer_count, is_identity, index_of, bearer_at, role_at, is_idle, is_default, connection_at}
-use Rattle.table.specs.WellFormed.{transaction_fine, filter_fine, row_precedences}
-
--- ---- one bearer, by which bearers are defaults
-abbrev pub default_at : Table → ℕ → Bool
-default_at t i = is_default (role_at t i)
-
-abbrev pub link_in : List Bool → Role → Bool
-link_in defaults Idle = true
-link_in defaults Default = true
-link_in defaults (Dedicated link) = is_identity link && get_or defaults (index_of link) false
-
-unfoldable pub bearer_in : List Bool → Bearer → Bool
-bearer_in defaults b =
-    transaction_fine (is_idle b.role) b.transaction && link_in defaults b.role
-    && all_below (filter_fine (is_idle b.role) b.row) place_count
-
-abbrev pub fine_at : List Bool → Table → ℕ → Bool
-fine_at defaults t i = bearer_in defaults (bearer_at t i)
-
--- ---- two transactions
-unfoldable pub apart_in : List ℕ → ℕ → ℕ → Bool
-apart_in xs i k = eqb (get_or xs i 0) 0 || imp (eqb (get_or xs i 0) (get_or xs k 0)) (eqb i k)
-
-unfoldable pub apart_from : List ℕ → ℕ → Bool
-apart_from xs i = all_below (apart_in xs i) bearer_count
+use Rattle.table.specs.Bearers.{is_identity, index_of, bearer_at, role_at, is_idle, connection_at}
+use Rattle.table.specs.WellFormed.{row_precedences}
 
 -- ---- precedences, marked as they come: a mark for each, and in it a bit for each default
 -- the bit of a connection; none where no default can have that identity
@@ -77,8 +50,3 @@ bearer_marked t marks k = fold (marked (bit_of (connection_at t k))) marks (acti
 
 abbrev pub marks_at : Table → ℕ → Marks
 marks_at t n = walk (bearer_marked t) none_marked n
-
--- a test that marks as it goes tells that all was fine and nothing came again, and leaves the marks
-pub record Told (fine : Bool) (marks : Marks) (told : Bool) (seen : List ℕ) : Type 0 where
-  pub tells : told ≡ fine && not marks.again
-  pub leaves : seen ≡ marks.seen

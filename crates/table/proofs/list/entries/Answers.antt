@@ -1,15 +1,15 @@
--- `table::list::entries` meets its contract: the parts passed are counted, and the parts together are all positions.
-use mathlib.Core.Path.{◌∙◌}
-use Prim.Native.Nat.{◌*◌}
+use Rattle.std.proofs.Common.{ap, ◌∙◌, length, [], ◌∷◌}
 use native.Mathlib.Omega.{arith}
-use Rattle.laws.specs.Index.{sum_below, count_below}
-use Rattle.laws.proofs.Index.{done}
-use Rattle.table.specs.Inner.Lists.{names_at}
-use Rattle.table.proofs.Cells.{parts_named}
+use lib.ListN.{length-append}
+use Rattle.table.proofs.Cells.{names_apart}
 use Rattle.table.proofs.list.entries.Goals as goal
 
-pub returns : goal.returns
-returns c =
-    let l = c.loop-k in
-    let cells = c.args.cells.now in
-    done (sum_below (λ k. count_below (names_at cells (k * 128)) 128)) l.k 22 _ (omega arith) (omega arith) l.invariant ∙ parts_named cells
+pub loop-part-preserved : goal.loop-part-preserved
+loop-part-preserved c =
+    let now = c.in-Some.ensures.steps in
+    let was = c.loop-part.invariant in
+    let long = now.1.1 ∙ was.0 in (
+      now.0 ∙ was.0,
+      omega (arith, was.1, ap length now.1.0, length-append c.in-Some.part.now c.next.new.self.rest.now, long, length-append c.loop-part.yielded (c.in-Some.part ∷ [])),
+      omega (arith, was.2, c.entries_in.ensures, names_apart c.in-Some.part.now c.next.new.self.rest.now now.1.0 long),
+    )

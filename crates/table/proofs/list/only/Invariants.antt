@@ -1,8 +1,10 @@
 use mathlib.Core.Path.{◌≡◌}
+use mathlib.Core.Bool.{false}
+use Prim.Native.Nat.{ℕ, ◌<◌}
 use lib.Dec.{eqb}
-use Rattle.laws.proofs.Index.{stored}
+use lib.ListN.{get_or}
 use Rattle.table.specs.Bearers.{identity_of}
 use Rattle.table.proofs.list.only.Given as goal
 
 abbrev pub invariant-loop-i : goal.invariant-loop-i
-invariant-loop-i l = (l.touched ≡ stored (λ i'. eqb (identity_of i') l.identity) l.initial.touched l.i)
+invariant-loop-i l = (k : ℕ) → k < l.i → get_or l.is_touched-items k false ≡ eqb (identity_of k) l.identity

@@ -1,5 +1,0 @@
-use Rattle.table.proofs.Walks.{RowTold}
-use Rattle.table.proofs.walk.row_fine.Given as goal
-
-abbrev pub invariant-loop-j : goal.invariant-loop-j
-invariant-loop-j l = RowTold l.bit l.lists l.from l.bearer l.b.row l.initial.seen l.j l.found.fine l.found.uplinks l.seen
