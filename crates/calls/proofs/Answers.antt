@@ -1,4 +1,4 @@
--- Each call gives a number of document 01's list, of those that are its own; 0 where nothing is refused.
+-- Each call gives a number of those that are its own; 0 where nothing is refused.
 -- Assumes nothing.
 use mathlib.Core.Path.{◌≡◌, refl, sym, subst}
 use mathlib.Core.Bool.{Bool, true, ◌&&◌, ◌||◌}
@@ -22,7 +22,8 @@ use Rattle.table.specs.Bearers.{index_of, transaction_at, is_idle, is_default, i
 use Rattle.table.specs.Tables.{build}
 use Rattle.table.specs.WellFormed.{well_formed}
 use Rattle.calls.specs.Reply.{cause_number, cause_of}
-use Rattle.calls.specs.Steps.{is_open, closed, opened_view, empties}
+use Rattle.calls.specs.Steps.{is_open, closed, empties}
+use Rattle.table.specs.Changes.{opened_view}
 use Rattle.calls.specs.Lay.{lay_of}
 use Rattle.element.specs.Head.{create, delete_tft, operation_of, head_fine}
 use Rattle.calls.specs.Modify.{mismatch, creates, deleted_filters, deleted_tft, modified_by, modify_read, modify_named, modify_of}

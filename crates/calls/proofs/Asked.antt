@@ -14,7 +14,8 @@ use Rattle.table.specs.declared.bearer.Role.TheVariants.{Idle}
 use Rattle.table.specs.declared.bearer.Table.{Table}
 use Rattle.table.specs.Bearers.{bearer_count, last_transaction, is_identity, index_of, role_at, transaction_at, is_idle, is_default, is_dedicated, role_of}
 use Rattle.table.proofs.Meaning.{idle_says, dedicated_says, range_says, default_of}
-use Rattle.calls.specs.Steps.{opens_at, is_open}
+use Rattle.calls.specs.Steps.{is_open}
+use Rattle.table.specs.Changes.{opens_at}
 use Rattle.calls.specs.Modify.{mismatch}
 use Rattle.calls.specs.Others.{available}
 use Rattle.calls.specs.Changes.{IsDedicated}

@@ -37,7 +37,8 @@ use Rattle.calls.specs.declared.reply.Answer.TheVariants.{Accept, Started, Refus
 use Rattle.calls.specs.declared.reply.Refusal.TheVariants.{NoIdentity, AlreadyOpen, NoBearer, BearerBusy}
 use Rattle.calls.specs.declared.reply.Outcome.{Outcome}
 use Rattle.calls.specs.Reply.{number_of, reject_head, answered, rejected_with}
-use Rattle.calls.specs.Steps.{is_open, closed, opened_view, holds_in, stays_in, empties}
+use Rattle.calls.specs.Steps.{is_open, closed, holds_in, stays_in, empties}
+use Rattle.table.specs.Changes.{opened_view}
 use Rattle.calls.specs.Modify.{malformed, mismatch, creates, deleted_filters, deleted_tft, modified_by, modify_read, modify_named, modify_of}
 use Rattle.calls.specs.Others.{available, activate_default_of, activated_by, activate_read, activate_named, activate_dedicated_of, deactivate_of, reject_of, start_of}
 use Rattle.calls.specs.Changes.{Stays}

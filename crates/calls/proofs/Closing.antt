@@ -30,7 +30,8 @@ use Rattle.table.proofs.Meaning.{well_says}
 use Rattle.calls.specs.declared.reply.Cause.TheVariants.{Transaction}
 use Rattle.calls.specs.declared.reply.Outcome.{Outcome}
 use Rattle.calls.specs.Reply.{number_of, rejected_with}
-use Rattle.calls.specs.Steps.{opens_at, closed_view, closed, opened_view, cut_view, of_connection, deleted_view, empties, home}
+use Rattle.calls.specs.Steps.{closed, empties, home}
+use Rattle.table.specs.Changes.{opens_at, closed_view, opened_view, cut_view, of_connection, deleted_view}
 use Rattle.calls.specs.Lay.{laid_view, released, lay_or_release, lay_within, lay_of}
 use Rattle.calls.specs.Modify.{malformed, mismatch, creates, deleted_filters, deleted_tft, modified_by, modify_read, modify_named, modify_of}
 use Rattle.calls.specs.Others.{available, activated_by, activate_read, activate_named, activate_dedicated_of}

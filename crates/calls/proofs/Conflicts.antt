@@ -11,16 +11,20 @@ use mathlib.Core.Logic.{⊎_elim}
 use Rattle.laws.specs.Says.{pick}
 use Rattle.laws.specs.Index.{any_below, tab}
 use Rattle.laws.proofs.Index.{next, tab_at, tab_length, tab_is, any_none}
-use Rattle.laws.proofs.Says.{which, says_eq, says_ne}
+use Rattle.laws.proofs.Says.{which, never, by_test, says_eq, says_ne}
 use Rattle.filter.specs.declared.component.Filter.{Filter}
 use Rattle.filter.specs.Coding.{held}
 use Rattle.table.specs.declared.bearer.Table.{Table}
 use Rattle.filter.specs.Sizes.{place_count, precedence_count}
 use Rattle.filter.specs.Build.{empty_filter}
 use Rattle.table.specs.Bearers.{in_row, bearer_at}
-use Rattle.calls.specs.Inner.Walk.{so}
-use Rattle.calls.specs.Steps.{of_connection}
-use Rattle.calls.specs.Lay.{old, taken_by, takes, conflict, placed, conflict_in, loses, loses_at}
+use Rattle.calls.specs.declared.incoming.Standing.{Standing}
+use Rattle.table.specs.Changes.{of_connection}
+use Rattle.laws.proofs.Tests.{neither}
+use Rattle.calls.specs.Lay.{old, taken_by, takes, conflict, placed, placed_in, conflict_in, loses, loses_at}
+
+abbrev pub so : Bool → Bool → Standing
+so named connected = record { named = named; connected = connected }
 
 -- ---- the precedences of the new filters
 abbrev pub taken_below : List Filter → ℕ → ℕ → Bool
@@ -92,21 +96,46 @@ module _ (new : List Filter) (create named connected : Bool) (n f : Filter) (too
       go true = sym (no_conflict connected)
       go false = refl
 
-  pub placed_by : pick (named && held n) n (pick ((named && create) || hit) empty_filter f) ≡ placed new create (so named connected) n f
-  unfolding placed old
-  placed_by =
-      ap (λ (b : Bool). pick (named && held n) n (pick ((named && create) || b) empty_filter f)) hit_is ∙ go named (held n) create
-    where
-      same : (b : Bool) → empty_filter ≡ pick b empty_filter empty_filter
-      same true = refl
-      same false = refl
+-- the code's question
+pub conflict_is : (new : List Filter) (taken : List Bool) (create : Bool) (s : Standing) (n f : Filter) → taken ≡ tab (takes new) precedence_count → f.precedence < precedence_count
+    → not (s.named && (create || held n)) && (s.connected && held f && get_or taken f.precedence false) ≡ conflict new s.connected (old create s n f)
+conflict_is new taken create s n f e l =
+    conflict_old new create s.named s.connected n f (get_or taken f.precedence false) _
+    (ap (λ (ms : List Bool). get_or ms f.precedence false) e ∙ tab_at (takes new) precedence_count f.precedence false l) refl _ refl
 
-      go : (named h create : Bool) → pick (named && h) n (pick ((named && create) || conflict new connected f) empty_filter f)
-          ≡ pick (named && h) n (pick (conflict new connected (pick (named && (create || h)) empty_filter f)) empty_filter (pick (named && (create || h)) empty_filter f))
-      go false h create = refl
-      go true true create = refl
-      go true false true = same (conflict new connected empty_filter)
-      go true false false = refl
+-- ---- one place of a row that is laid on
+module _ (new row : List Filter) (create : Bool) (s : Standing) (j : ℕ) where
+  pub placed_new : s.named && held (in_row new j) ≡ true → in_row new j ≡ placed_in new create s row j
+  unfolding placed_in placed
+  placed_new h = rw h
+
+  -- b: the old one is a conflict
+  module _ (h : s.named && held (in_row new j) ≡ false) (b : Bool) (c : b ≡ conflict new s.connected (old create s (in_row new j) (in_row row j))) where
+    remains : (s.named && create) || b ≡ false → s.named && (create || held (in_row new j)) ≡ false
+    remains e = go s.named create (held (in_row new j)) h e
+      where
+        go : (named create held : Bool) → named && held ≡ false → (named && create) || b ≡ false → named && (create || held) ≡ false
+        go false create held h e = refl
+        go true true held h e = e
+        go true false held h e = h
+
+    hit : (named create held : Bool) → named && (create || held) ≡ false → (named && create) || b ≡ true → b ≡ true
+    hit false create held q e = e
+    hit true true held q e = never refl q
+    hit true false held q e = e
+
+    pub placed_gone : (s.named && create) || b ≡ true → empty_filter ≡ placed_in new create s row j
+    unfolding placed_in placed old
+    placed_gone e = rw h (go (s.named && (create || held (in_row new j))) refl)
+      where
+        go : (r : Bool) → s.named && (create || held (in_row new j)) ≡ r
+            → empty_filter ≡ pick (conflict new s.connected (pick r empty_filter (in_row row j))) empty_filter (pick r empty_filter (in_row row j))
+        go true q = by_test (λ (f : Filter). empty_filter ≡ f) (conflict new s.connected empty_filter) empty_filter empty_filter (λ _. refl) (λ _. refl)
+        go false q = rw (sym (c ∙ ap (λ (r : Bool). conflict new s.connected (pick r empty_filter (in_row row j))) q) ∙ hit s.named create (held (in_row new j)) q e)
+
+    pub placed_old : (s.named && create) || b ≡ false → in_row row j ≡ placed_in new create s row j
+    unfolding placed_in placed old
+    placed_old e = rw (h, remains e) (rw (sym (c ∙ ap (λ (r : Bool). conflict new s.connected (pick r empty_filter (in_row row j))) (remains e)) ∙ (neither (s.named && create) b e).1))
 
 -- ---- one row
 module _ (new : List Filter) (create : Bool) where

@@ -23,13 +23,14 @@ use Rattle.table.specs.Bearers.{bearer_count, index_of, identity_of, bearer_at, 
 use Rattle.table.specs.Tables.{View, view, build}
 use Rattle.table.specs.WellFormed.{WellFormed}
 use Rattle.table.proofs.Meaning.{default_says, dedicated_says}
-use Rattle.calls.specs.Inner.Walk.{so}
+use Rattle.calls.proofs.Conflicts.{so}
 use Rattle.calls.specs.declared.reply.Answer.{Answer}
 use Rattle.calls.specs.declared.reply.Answer.TheVariants.{Accept, Release, Reattach}
 use Rattle.calls.specs.declared.reply.FollowUps.{FollowUps}
 use Rattle.calls.specs.declared.reply.Outcome.{Outcome}
 use Rattle.calls.specs.Reply.{follow_of}
-use Rattle.calls.specs.Steps.{cut_view, of_connection, home}
+use Rattle.calls.specs.Steps.{home}
+use Rattle.table.specs.Changes.{cut_view, of_connection}
 use Rattle.calls.specs.Lay.{old, conflict, placed, conflict_in, loses, placed_in, loses_at, conflict_on_default, follows, laid_view, released, followers}
 use Rattle.calls.specs.Lay.{other_at, only_connection, lay_or_release, lay_within, lay_of}
 use Rattle.calls.proofs.Views.{bearer_built, role_built, transaction_built, filter_built}

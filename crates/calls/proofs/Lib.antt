@@ -1,4 +1,3 @@
-pub mod Rows
 pub mod Views
 pub mod Asked
 pub mod Preserved
@@ -10,12 +9,8 @@ pub mod Named
 pub mod Theorems
 pub mod Followers
 pub mod Conflicts
-pub mod Overlays
 pub mod Answers
 pub mod Checks
 pub mod Places
 pub mod Closing
-pub mod Deciding
-pub mod Applying
-pub mod Opening
-pub mod Plainly
+pub mod Changing

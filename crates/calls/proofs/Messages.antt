@@ -1,5 +1,6 @@
 -- The messages that bring filters, modify and dedicated activation, have the same ends: a refusal, an accept without filters, or filters laid on a table
 -- that stands to the message's table as `Ready` says. What holds of these holds of both messages.
+use Rattle.std.specs.Prelude.{Option}
 use mathlib.Core.Path.{◌≡◌, refl, sym, ◌∙◌, ap, subst}
 use mathlib.Core.Bool.{Bool, true, false, ◌&&◌}
 use mathlib.Core.Logic.{◌⊎◌, inl, inr, ⊎_elim}
@@ -37,10 +38,10 @@ use Rattle.calls.specs.declared.reply.Answer.{Answer}
 use Rattle.calls.specs.declared.reply.Answer.TheVariants.{Accept, Reject}
 use Rattle.calls.specs.declared.reply.Cause.{Cause}
 use Rattle.calls.specs.declared.reply.Cause.TheVariants.{TftSemantics, TftSyntax, BearerIdentity, FilterSemantics, FilterSyntax, Transaction}
-use Rattle.calls.specs.declared.reply.Place.{Place}
 use Rattle.calls.specs.declared.reply.Outcome.{Outcome}
 use Rattle.calls.specs.Reply.{cause_number, cause_of, number_of, answered, rejected_with}
-use Rattle.calls.specs.Steps.{opens_at, closed_view, closed, opened_view, deleted_in, deleted_view, empties, home}
+use Rattle.calls.specs.Steps.{closed, empties, home}
+use Rattle.table.specs.Changes.{opens_at, closed_view, opened_view, deleted_in, deleted_view}
 use Rattle.calls.specs.Lay.{lay_of}
 use Rattle.calls.specs.Modify.{malformed, mismatch, creates, deleted_filters, deleted_tft, modified_by, modify_read, modify_named, modify_of}
 use Rattle.calls.specs.Others.{available, activated_by, activate_read, activate_named, activate_dedicated_of}
@@ -182,7 +183,7 @@ module _ (t : Table) (ok : TableInRange t) (connection bearer x : ℕ) {role : R
   between_long : (i : ℕ) → i < bearer_count → length (bearer_at between i).row ≡ place_count
   between_long i l = ap length (closes i l).row ∙ long i l
 
-  rejects : (cause : Cause) {place : Place} → P (answered between (Reject bearer cause place))
+  rejects : (cause : Cause) {place : Option ℕ} → P (answered between (Reject bearer cause place))
   rejects cause {place} = ends.refused between (Reject bearer cause place) (inr (cause, (place, refl))) closes
 
   -- no bearer has a transaction that step 2 refuses

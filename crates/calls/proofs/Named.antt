@@ -21,7 +21,8 @@ use Rattle.table.specs.WellFormed.{Held}
 use Rattle.calls.specs.declared.reply.Answer.TheVariants.{Accept}
 use Rattle.calls.specs.declared.reply.Outcome.{Outcome}
 use Rattle.calls.specs.Reply.{number_of}
-use Rattle.calls.specs.Steps.{of_connection, home}
+use Rattle.calls.specs.Steps.{home}
+use Rattle.table.specs.Changes.{of_connection}
 use Rattle.calls.specs.Lay.{old, conflict, placed, placed_in, lay_of}
 use Rattle.calls.specs.Modify.{creates, modify_of}
 use Rattle.calls.specs.Others.{activate_dedicated_of}

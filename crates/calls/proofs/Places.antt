@@ -1,5 +1,6 @@
--- Document 02, 6/14: a reject has the place that the reader gives, and none where the reader has nothing to say.
+-- A reject has the place that the reader gives, and none where the reader has nothing to say.
 -- Assumes nothing.
+use Rattle.std.specs.Prelude.{Some}
 use mathlib.Core.Path.{◌≡◌, refl, sym, ◌∙◌, ap}
 use mathlib.Core.Bool.{Bool, true, false, ◌&&◌}
 use mathlib.Core.List.{List}
@@ -28,9 +29,9 @@ use Rattle.table.specs.WellFormed.{well_formed}
 use Rattle.calls.specs.declared.reply.Answer.TheVariants.{Release, Reattach}
 use Rattle.calls.specs.declared.reply.Outcome.{Outcome}
 use Rattle.calls.specs.Reply.{cause_of, reject_for, reject_head, answered}
-use Rattle.calls.specs.Steps.{closed, opened_view, empties, home}
+use Rattle.calls.specs.Steps.{closed, empties, home}
+use Rattle.table.specs.Changes.{opened_view}
 use Rattle.calls.specs.Lay.{released, only_connection, lay_or_release, lay_within, lay_of}
-use Rattle.calls.specs.declared.reply.Place.TheVariants.{At}
 use Rattle.calls.specs.Modify.{mismatch, creates, deleted_filters, deleted_tft, modified_by, modify_read, modify_named, modify_of}
 use Rattle.calls.specs.Others.{available, activate_default_of, activated_by, activate_read, activate_named, activate_dedicated_of}
 use Rattle.calls.specs.Checks.{place_for, Placed, Unplaced}
@@ -40,7 +41,7 @@ module _ (value : List ℕ) where
   abbrev PlacedOutcome : Outcome → Type 0
   PlacedOutcome o = Placed value o.reply.answer
 
-  reader_place : (cause : ReadCause) → place_for (cause_of cause) value ≡ At (place_of value)
+  reader_place : (cause : ReadCause) → place_for (cause_of cause) value ≡ Some (place_of value)
   reader_place Operation = refl
   reader_place Semantics = refl
   reader_place Coding = refl
@@ -48,11 +49,11 @@ module _ (value : List ℕ) where
   -- steps 6 to 9
   read_placed : (t : Table) (bearer : ℕ) (refusal : ReadRefusal) → verdict_on (read_element value).answer ≡ refused_for refusal
       → PlacedOutcome (answered t (reject_for bearer refusal))
-  read_placed t bearer refusal e = ap At (verdict_place value refusal e) ∙ sym (reader_place refusal.cause)
+  read_placed t bearer refusal e = ap Some (verdict_place value refusal e) ∙ sym (reader_place refusal.cause)
 
   -- step 4: the reader, had it been asked, would have said the same
   head_placed : (t : Table) (bearer : ℕ) → head_fine value ≡ false → PlacedOutcome (answered t (reject_head bearer))
-  head_placed t bearer h = ap At (verdict_place value (record { cause = Operation; place = 0 }) (ap (λ (e : Element). verdict_on e.answer) (head_refused value h)))
+  head_placed t bearer h = ap Some (verdict_place value (record { cause = Operation; place = 0 }) (ap (λ (e : Element). verdict_on e.answer) (head_refused value h)))
 
   laid_placed : (t : Table) (bearer : ℕ) (new : List Filter) (creating : Bool) → PlacedOutcome (lay_of t bearer new creating)
   unfolding lay_of lay_within

@@ -23,8 +23,9 @@ use Rattle.table.specs.Bearers.{first_identity, last_identity, bearer_count, las
 use Rattle.table.specs.Tables.{View, view, build}
 use Rattle.table.specs.WellFormed.{Held, ActiveDefault, Well, WellFormed}
 use Rattle.table.proofs.Meaning.{Fine}
-use Rattle.calls.specs.Inner.Walk.{so}
-use Rattle.calls.specs.Steps.{opens_at, closed_view, closed, started_view, opened_view, cut_view, of_connection, is_at, dropped_by, dropped, deleted_in, deleted_view}
+use Rattle.calls.proofs.Conflicts.{so}
+use Rattle.calls.specs.Steps.{closed, dropped_by, dropped}
+use Rattle.table.specs.Changes.{opens_at, closed_view, started_view, opened_view, cut_view, of_connection, is_at, deleted_in, deleted_view}
 use Rattle.calls.specs.Changes.{Taken, Void}
 use Rattle.calls.specs.Lay.{old, taken_by, takes, conflict, placed, placed_in, laid_view, released, lay_or_release, lay_within, lay_of}
 use Rattle.calls.proofs.Views.{role_built, transaction_built, filter_built}

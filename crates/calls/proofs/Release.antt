@@ -29,7 +29,8 @@ use Rattle.calls.specs.declared.reply.Answer.TheVariants.{Accept, Reject, Releas
 use Rattle.calls.specs.declared.reply.FollowUps.{FollowUps}
 use Rattle.calls.specs.declared.reply.Outcome.{Outcome}
 use Rattle.calls.specs.Reply.{number_of, follow_of, answered}
-use Rattle.calls.specs.Steps.{of_connection, home}
+use Rattle.calls.specs.Steps.{home}
+use Rattle.table.specs.Changes.{of_connection}
 use Rattle.calls.specs.Lay.{conflict, lay_of}
 use Rattle.calls.specs.Modify.{creates, modify_of}
 use Rattle.calls.specs.Others.{activate_dedicated_of}

@@ -27,7 +27,8 @@ use Rattle.calls.specs.declared.reply.Answer.TheVariants.{Release, Reattach}
 use Rattle.calls.specs.declared.reply.Outcome.{Outcome}
 use Rattle.calls.specs.Reply.{number_of, rejected_with}
 use Rattle.calls.specs.Changes.{Refuses, RefusalLeaves}
-use Rattle.calls.specs.Steps.{is_open, closed, opened_view, empties}
+use Rattle.calls.specs.Steps.{is_open, closed, empties}
+use Rattle.table.specs.Changes.{opened_view}
 use Rattle.calls.specs.Lay.{released, only_connection, lay_or_release, lay_within, lay_of}
 use Rattle.element.specs.Head.{create, delete_tft, operation_of, head_fine}
 use Rattle.calls.specs.Modify.{malformed, mismatch, creates, deleted_filters, deleted_tft, modified_by, modify_read, modify_named, modify_of}

@@ -43,7 +43,8 @@ use Rattle.table.proofs.Listing.{cell_small}
 use Rattle.table.specs.WellFormed.{well_formed, ActiveDefault, Well}
 use Rattle.table.proofs.Meaning.{Fine, default_of, place_says, well_says}
 use Rattle.calls.specs.declared.reply.Outcome.{Outcome}
-use Rattle.calls.specs.Steps.{opens_at, is_open, owner_of, closed_view, closed, started_view, opened_view, cut_view, of_connection, is_at, dropped_by, dropped, deleted_in, deleted_view, empties}
+use Rattle.calls.specs.Steps.{is_open, owner_of, closed, dropped_by, dropped, empties}
+use Rattle.table.specs.Changes.{opens_at, closed_view, started_view, opened_view, cut_view, of_connection, is_at, deleted_in, deleted_view}
 use Rattle.calls.specs.Lay.{placed_in, laid_view, released, lay_or_release, lay_within, lay_of}
 use Rattle.element.specs.Head.{create, operation_of, head_fine}
 use Rattle.calls.specs.Modify.{creates, mismatch, deleted_filters, deleted_tft, modified_by, modify_read, modify_named, modify_of}

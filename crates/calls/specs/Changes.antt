@@ -1,5 +1,5 @@
 -- What the theorems on the calls say, where that is no computation.
-use Rattle.std.specs.Prelude.{◌≡◌, Bool, true, false, ◌⊎◌, ◌↔◌, List, [], ℕ, ◌<◌, ◌≤◌, get_or}
+use Rattle.std.specs.Prelude.{◌≡◌, Bool, true, false, ◌⊎◌, ◌↔◌, List, [], ℕ, ◌<◌, ◌≤◌, get_or, Option}
 use Rattle.laws.specs.Index.{SomeBelow}
 use Rattle.laws.specs.Lists.{is_in}
 use Rattle.filter.specs.declared.component.Filter.{Filter}
@@ -17,7 +17,6 @@ use Rattle.table.specs.Tables.{View, view}
 use Rattle.table.specs.Ranges.{TableInRange}
 use Rattle.table.specs.WellFormed.{Held, WellFormed}
 use Rattle.calls.specs.declared.reply.Cause.{Cause}
-use Rattle.calls.specs.declared.reply.Place.{Place}
 use Rattle.calls.specs.declared.reply.Refusal.TheVariants.{NotWellFormed}
 use Rattle.calls.specs.declared.reply.Answer.{Answer}
 use Rattle.calls.specs.declared.reply.Answer.TheVariants.{Accept, Reject, Release, Reattach, Started, Closed, Synchronised, Refused}
@@ -37,7 +36,7 @@ Refuses o = number_of o.reply.answer ≡ 0 → ⊥
 
 -- a message is refused by a reject with the received identity, or with 1 and no reply
 abbrev pub Rejects : ℕ → Answer → Type 0
-Rejects bearer a = (a ≡ Refused NotWellFormed) ⊎ ((cause : Cause) × ((place : Place) × (a ≡ Reject bearer cause place)))
+Rejects bearer a = (a ≡ Refused NotWellFormed) ⊎ ((cause : Cause) × ((place : Option ℕ) × (a ≡ Reject bearer cause place)))
 
 -- the number given is one of these
 abbrev pub Gives : List ℕ → Outcome → Type 0

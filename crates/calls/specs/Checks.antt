@@ -1,5 +1,5 @@
 -- Where each call is refused, and with which number, said as types: "Order of checks for a modify message" and "Numbers given".
-use Rattle.std.specs.Prelude.{◌≡◌, true, false, ◌⊎◌, ◌↔◌, List, ℕ, ◌<◌, ◌≤◌, length, get_or}
+use Rattle.std.specs.Prelude.{◌≡◌, true, false, ◌⊎◌, ◌↔◌, List, ℕ, ◌<◌, ◌≤◌, length, get_or, None, Option, Some}
 use Rattle.laws.specs.Index.{SomeBelow}
 use Rattle.filter.specs.Sizes.{place_count}
 use Rattle.element.specs.declared.answer.Answer.TheVariants.{Identifiers}
@@ -13,8 +13,6 @@ use Rattle.table.specs.Bearers.{first_identity, last_identity, bearer_count, las
 use Rattle.table.specs.WellFormed.{Held, ActiveDefault, WellFormed}
 use Rattle.calls.specs.declared.reply.Cause.{Cause}
 use Rattle.calls.specs.declared.reply.Cause.TheVariants.{TftSemantics, TftSyntax, BearerIdentity, FilterSemantics, FilterSyntax, Transaction}
-use Rattle.calls.specs.declared.reply.Place.{Place}
-use Rattle.calls.specs.declared.reply.Place.TheVariants.{Nowhere, At}
 use Rattle.calls.specs.declared.reply.Answer.{Answer}
 use Rattle.calls.specs.declared.reply.Answer.TheVariants.{Accept, Reject, Release, Reattach, Started, Closed, Synchronised, Refused}
 use Rattle.calls.specs.Changes.{IsDedicated, ButClosed}
@@ -128,14 +126,14 @@ pub record StartNumbered (t : Table) (x bearer number : ℕ) : Type 0 where
   pub is5 : (number ≡ 5) ↔ (WellFormed t × ((NoIdentity x → ⊥) × (Active t bearer × ((transaction_at t (index_of bearer) ≡ 0) × Open t x))))
   pub is0 : (number ≡ 0) ↔ (WellFormed t × ((NoIdentity x → ⊥) × (Active t bearer × ((transaction_at t (index_of bearer) ≡ 0) × (Open t x → ⊥)))))
 
--- ---- Document 02, 6/14: the place of a reject. 42, 44 and 45 have that of the element, which is 0 where step 4 refuses; 41, 43 and 47 have none
-abbrev pub place_for : Cause → List ℕ → Place
-place_for TftSemantics value = Nowhere
-place_for TftSyntax value = At (place_of value)
-place_for BearerIdentity value = Nowhere
-place_for FilterSemantics value = At (place_of value)
-place_for FilterSyntax value = At (place_of value)
-place_for Transaction value = Nowhere
+-- ---- The place of a reject. 42, 44 and 45 have that of the element, which is 0 where step 4 refuses; 41, 43 and 47 have none
+abbrev pub place_for : Cause → List ℕ → Option ℕ
+place_for TftSemantics value = None
+place_for TftSyntax value = Some (place_of value)
+place_for BearerIdentity value = None
+place_for FilterSemantics value = Some (place_of value)
+place_for FilterSyntax value = Some (place_of value)
+place_for Transaction value = None
 
 -- of the answer to a message with this element
 abbrev pub Placed : List ℕ → Answer → Type 0
@@ -151,7 +149,7 @@ Placed value (Refused refusal) = Unit {0}
 -- of the answer to a message without an element: no reject has a place
 abbrev pub Unplaced : Answer → Type 0
 Unplaced (Accept bearer) = Unit {0}
-Unplaced (Reject bearer cause place) = place ≡ Nowhere
+Unplaced (Reject bearer cause place) = place ≡ None
 Unplaced (Release default) = Unit {0}
 Unplaced Reattach = Unit {0}
 Unplaced (Started transaction) = Unit {0}

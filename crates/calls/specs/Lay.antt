@@ -11,17 +11,12 @@ use Rattle.table.specs.Bearers.{bearer_count, index_of, identity_of, bearer_at, 
 use Rattle.table.specs.Tables.{View, build}
 use Rattle.calls.specs.declared.reply.Answer.TheVariants.{Accept, Release, Reattach}
 use Rattle.calls.specs.declared.reply.Outcome.{Outcome}
+use Rattle.calls.specs.declared.incoming.Standing.{Standing}
 use Rattle.calls.specs.Reply.{outcome, answered}
-use Rattle.calls.specs.Steps.{cut_view, of_connection, home}
+use Rattle.calls.specs.Steps.{home}
+use Rattle.table.specs.Changes.{cut_view, of_connection}
 
--- how a bearer stands to the message
-pub record Standing : Type 0 where
-  -- it is the one that is named
-  pub named : Bool
-  -- it is of the named one's connection
-  pub connected : Bool
-
--- ---- one place of a bearer that stands so: n is the new filter of that place, f the old one
+-- ---- one place of a bearer that is the named one or not, of its connection or not: n is the new filter of that place, f the old one
 -- "create puts the new set in place of the old"; "Add and replace lay the new filters over the old by identifier": the old filter that remains
 unfoldable pub old : Bool → Standing → Filter → Filter → Filter
 old create s n f = pick (s.named && (create || held n)) empty_filter f

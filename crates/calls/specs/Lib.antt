@@ -5,4 +5,3 @@ pub mod Modify
 pub mod Others
 pub mod Changes
 pub mod Checks
-pub mod Inner

@@ -19,7 +19,8 @@ use Rattle.calls.specs.declared.reply.Refusal.TheVariants.{NotWellFormed}
 use Rattle.calls.specs.declared.reply.Answer.TheVariants.{Accept, Refused}
 use Rattle.calls.specs.declared.reply.Outcome.{Outcome}
 use Rattle.calls.specs.Reply.{reject_for, reject_head, answered, rejected_with}
-use Rattle.calls.specs.Steps.{is_open, closed, deleted_view, empties}
+use Rattle.calls.specs.Steps.{is_open, closed, empties}
+use Rattle.table.specs.Changes.{deleted_view}
 use Rattle.calls.specs.Lay.{lay_of}
 
 -- Step 1: "Table not well formed: 1."

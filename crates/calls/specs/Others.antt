@@ -15,7 +15,8 @@ use Rattle.calls.specs.declared.reply.Refusal.TheVariants.{NotOpen, NoIdentity, 
 use Rattle.calls.specs.declared.reply.Answer.TheVariants.{Accept, Started, Closed, Refused}
 use Rattle.calls.specs.declared.reply.Outcome.{Outcome}
 use Rattle.calls.specs.Reply.{cause_number, reject_for, reject_head, answered, rejected_with}
-use Rattle.calls.specs.Steps.{is_open, owner_of, closed, started_view, opened_view, dropped}
+use Rattle.calls.specs.Steps.{is_open, owner_of, closed, dropped}
+use Rattle.table.specs.Changes.{started_view, opened_view}
 use Rattle.calls.specs.Lay.{lay_of}
 use Rattle.calls.specs.Modify.{malformed, mismatch}
 

@@ -1,5 +1,5 @@
 -- What a call gives: the new table, the answer, and the follow-up list.
-use Rattle.std.specs.Prelude.{ℕ, List, [], length}
+use Rattle.std.specs.Prelude.{ℕ, List, [], length, None, Some}
 use Rattle.laws.specs.Index.{pad}
 use Rattle.table.specs.declared.bearer.Table.{Table}
 use Rattle.table.specs.Bearers.{bearer_count}
@@ -10,7 +10,6 @@ use Rattle.calls.specs.declared.reply.Cause.{Cause}
 use Rattle.calls.specs.declared.reply.Cause.TheVariants.{TftSemantics, TftSyntax, BearerIdentity, FilterSemantics, FilterSyntax, Transaction}
 use Rattle.calls.specs.declared.reply.Refusal.{Refusal}
 use Rattle.calls.specs.declared.reply.Refusal.TheVariants.{NotWellFormed, NotOpen, NoIdentity, AlreadyOpen, NoBearer, BearerBusy, StatusLength, UnknownMessage, MessageFraming}
-use Rattle.calls.specs.declared.reply.Place.TheVariants.{Nowhere, At}
 use Rattle.calls.specs.declared.reply.Answer.{Answer}
 use Rattle.calls.specs.declared.reply.Answer.TheVariants.{Accept, Reject, Release, Reattach, Started, Closed, Synchronised, Refused}
 use Rattle.calls.specs.declared.reply.FollowUps.{FollowUps}
@@ -53,18 +52,18 @@ cause_of Operation = TftSyntax
 cause_of Semantics = FilterSemantics
 cause_of Coding = FilterSyntax
 
--- ---- Document 02, 6/14: the place of a reject, counted in the element's value
+-- ---- The place of a reject, counted in the element's value
 -- "Every refusal of the element reader should carry a place": the reader's, passed on
 abbrev pub reject_for : ℕ → ReadRefusal → Answer
-reject_for bearer refusal = Reject bearer (cause_of refusal.cause) (At refusal.place)
+reject_for bearer refusal = Reject bearer (cause_of refusal.cause) (Some refusal.place)
 
 -- step 4: "Length, operation or count wrong: 0."
 abbrev pub reject_head : ℕ → Answer
-reject_head bearer = Reject bearer TftSyntax (At 0)
+reject_head bearer = Reject bearer TftSyntax (Some 0)
 
 -- what is not the reader's to say, 41, 43 and 47, has none
 abbrev pub reject : ℕ → Cause → Answer
-reject bearer cause = Reject bearer cause Nowhere
+reject bearer cause = Reject bearer cause None
 
 -- "the follow-up list in rising identity": a count, and zero beyond it
 abbrev pub follow_of : List ℕ → FollowUps

@@ -1,87 +1,99 @@
 // Default and dedicated activation.
 ghost use Rattle.std.specs.Prelude.{◌≡◌};
-ghost use Rattle.laws.specs.Says.{pick};
-ghost use Rattle.table.specs.declared.bearer.Role.TheVariants.{Dedicated};
-ghost use Rattle.calls.specs.Others.{activate_default_of, activate_dedicated_of};
+ghost use Rattle.table.specs.WellFormed.{WellFormed};
+ghost use Rattle.calls.specs.Others.{activate_default_of, activate_named, activate_dedicated_of};
 
-use crate::decide::{decide_dedicated, fate_of, reply_of};
-use crate::overlay::{gone_by, overlaid, taken_by};
-use crate::plain::{Plain, decide_plain, glance, stands, stepped};
-use crate::reply::{Answer, Outcome, Refusal, answer_with};
-use crate::seen::{glance_at, is_touched, nothing_seen, see};
+use crate::lay::lay;
+use crate::reply::{Cause, Outcome, Refusal, Reply};
+use crate::steps::{close, is_available, mismatches};
+use element::Answer;
+use element::head::{CREATE, head_fine, operation_of};
 use element::read::read;
-use table::bearer::{BEARERS, idle_bearer, index_of};
-use table::list::{only, relisted};
-use table::well_formed::well_formed;
-use table::{Bearer, Role, Table};
+use table::bearer::index_of;
+use table::{Role, Table};
 
-#[tactic(auto, using(crate::proofs::Plainly::plain_moves, crate::proofs::Plainly::plain_stands, table::proofs::Typed::table_in_range))]
-pub fn activate_default(t: Table, bearer: u8) -> Outcome
-    ensures { result ≡ activate_default_of t bearer }
+// On a table that is lent.
+#[tactic(auto, using(crate::proofs::Changing::opened_empty, crate::proofs::Changing::well), unfolding(crate::specs::Others::activate_default_of))]
+pub fn activate_default_on(table: &mut Table, bearer: u8) -> Reply
+    ensures { record { table = table.new; reply = result } ≡ activate_default_of table.old bearer }
 {
-    let seen = glance(t);
-    let d = decide_plain(well_formed(t), seen, Plain::Default(bearer));
-    let answer = d.answer;
-    if stands(d) {
-        return answer_with(t, answer);
+    table.typed();
+    if !table.well_formed() {
+        return Reply::refuse(Refusal::NotWellFormed);
     }
-    answer_with(stepped(t, d), answer)
+    if !is_available(table, bearer) {
+        return Reply::reject(bearer, Cause::BearerIdentity);
+    }
+    table.open(index_of(bearer), Role::Default);
+    Reply::accept(bearer)
 }
 
-fn with_role(b: Bearer, opens: bool, link: u8) -> Bearer
-    ensures { result ≡ record { role = pick opens (Dedicated link) b.role; transaction = b.transaction; row = b.row } }
+pub fn activate_default(table: Table, bearer: u8) -> Outcome
+    ensures { result ≡ activate_default_of table bearer }
 {
-    if opens {
-        Bearer {
-            role: Role::Dedicated(link),
-            ..b
+    let mut table = table;
+    let reply = activate_default_on(&mut table, bearer);
+    Outcome { table, reply }
+}
+
+#[tactic(auto, using(crate::proofs::Changing::opened_empty), unfolding(crate::specs::Others::activate_named, crate::specs::Others::activate_read))]
+fn activate_named(table: &mut Table, bearer: u8, link: u8, value: &[u8]) -> Reply
+    requires { WellFormed table.old }
+    ensures { record { table = table.new; reply = result } ≡ activate_named table.old bearer link value.now }
+{
+    table.typed();
+    if !(is_available(table, bearer) && table.role_of(link).is_default()) {
+        return Reply::reject(bearer, Cause::BearerIdentity);
+    }
+    if !head_fine(value) {
+        return Reply::reject_head(bearer);
+    }
+    if operation_of(value) != CREATE {
+        return Reply::reject(bearer, Cause::TftSemantics);
+    }
+    let element = read(value);
+    match element.answer {
+        Answer::Refused(refusal) => Reply::reject_for(bearer, refusal),
+        // A create reads as a create or as a cause.
+        _ => {
+            table.open(index_of(bearer), Role::Dedicated(link));
+            lay(table, bearer, &element.filters, true)
         }
-    } else {
-        b
     }
 }
 
-#[tactic(auto, using(crate::proofs::Theorems::activate_dedicated_malformed, crate::proofs::Applying::listed_there, crate::proofs::Applying::marks_long, crate::proofs::Opening::opened_home, crate::proofs::Opening::opened_means, crate::proofs::Applying::see_done, crate::proofs::Applying::see_start, crate::proofs::Applying::seen_role, crate::proofs::Applying::seen_there, crate::proofs::Rows::store_done, crate::proofs::Rows::store_start, crate::proofs::Applying::stored_there, table::proofs::Typed::table_in_range, table::proofs::Meaning::well_says, crate::proofs::Applying::whole))]
-pub fn activate_dedicated(t: Table, bearer: u8, link: u8, transaction: u8, value: &[u8]) -> Outcome
-    ensures { result ≡ activate_dedicated_of t bearer link transaction value.now }
+// On a table that is lent.
+#[tactic(auto, using(crate::proofs::Changing::well_right), unfolding(crate::specs::Others::activate_dedicated_of))]
+pub fn activate_dedicated_on(
+    table: &mut Table,
+    bearer: u8,
+    link: u8,
+    transaction: u8,
+    value: &[u8],
+) -> Reply
+    ensures { record { table = table.new; reply = result } ≡ activate_dedicated_of table.old bearer link transaction value.now }
 {
-    if !well_formed(t) {
-        return answer_with(t, Answer::Refused(Refusal::NotWellFormed));
+    table.typed();
+    if !table.well_formed() {
+        return Reply::refuse(Refusal::NotWellFormed);
     }
-    let k = index_of(bearer);
-    let e = read(value);
-    let said = e.answer;
-    let new = e.filters;
-    let taken = taken_by(new);
-    let gone = gone_by(e);
-    let mut s = t;
-    let mut seen = [nothing_seen(); BEARERS];
-    for i in 0..BEARERS {
-        let b = s.bearers[i];
-        if is_touched(b, i == k, &taken[..]) {
-            let c = s.bearers[i];
-            seen[i] = see(c, i == k, &taken[..], &gone[..]);
-        } else {
-            seen[i] = glance_at(b);
-        }
+    if mismatches(table, transaction) {
+        return Reply::reject(bearer, Cause::Transaction);
     }
-    let d = decide_dedicated(seen, bearer, link, transaction, said, value);
-    for i in 0..BEARERS {
-        let one = seen[i];
-        let fate = fate_of(one, i, i == k, d, transaction);
-        if fate.cut {
-            s.bearers[i] = idle_bearer();
-        } else if fate.change {
-            let b = s.bearers[i];
-            let laid = overlaid(b, fate, i == k, new, &taken[..], &gone[..]);
-            s.bearers[i] = with_role(laid, fate.lay & (i == k), link);
-        }
-    }
-    if d.change | d.cut {
-        s = relisted(s, only(d.connection));
-    }
-    Outcome {
-        table: s,
-        reply: reply_of(seen, d),
-    }
+    close(table, transaction);
+    activate_named(table, bearer, link, value)
+}
+
+pub fn activate_dedicated(
+    table: Table,
+    bearer: u8,
+    link: u8,
+    transaction: u8,
+    value: &[u8],
+) -> Outcome
+    ensures { result ≡ activate_dedicated_of table bearer link transaction value.now }
+{
+    let mut table = table;
+    let reply = activate_dedicated_on(&mut table, bearer, link, transaction, value);
+    Outcome { table, reply }
 }

@@ -1,68 +1,112 @@
 // The modify message.
 ghost use Rattle.std.specs.Prelude.{◌≡◌};
-ghost use Rattle.calls.specs.Modify.{creates, modify_of};
+ghost use Rattle.filter.specs.Sizes.{place_count};
+ghost use Rattle.table.specs.WellFormed.{RightLists};
+ghost use Rattle.calls.specs.Steps.{empties};
+ghost use Rattle.calls.specs.Modify.{deleted_filters, deleted_tft, modify_named, modify_of};
 
-use crate::decide::{decide, fate_of, reply_of};
-use crate::overlay::{gone_by, overlaid, taken_by};
-use crate::reply::{Answer, Outcome, Refusal, answer_with};
-use crate::seen::{glance_at, is_touched, nothing_seen, see};
-use element::SetOperation;
+use crate::lay::lay;
+use crate::reply::{Cause, Outcome, Refusal, Reply};
+use crate::steps::{close, mismatches};
+use element::head::{DELETE_TFT, head_fine, operation_of};
 use element::read::read;
-use table::bearer::{BEARERS, idle_bearer, index_of};
-use table::list::{only, relisted};
-use table::well_formed::well_formed;
-use table::{Bearer, Table};
+use element::{Answer, BareOperation, SetOperation};
+use filter::component::PLACES;
+use table::Table;
+use table::bearer::{BEARERS, index_of};
 
-pub(crate) fn does_create(operation: SetOperation) -> bool
-    ensures { result ≡ creates operation }
+// Whether the bearer at index i holds filters, and each in a place that is marked.
+#[tactic(auto, using(crate::proofs::Changing::empties_past, laws::proofs::Index::any_more, laws::proofs::Index::any_start, laws::proofs::Index::done), unfolding(crate::specs::Steps::empties, crate::specs::Steps::holds_in, crate::specs::Steps::stays_in))]
+fn empties(table: &Table, i: usize, marks: &[bool; PLACES]) -> bool
+    ensures { result ≡ empties table.now i marks.now }
 {
-    match operation {
-        SetOperation::Create => true,
-        SetOperation::Add => false,
-        SetOperation::Replace => false,
+    table.typed();
+    if i >= BEARERS {
+        return false;
+    }
+    let mut holds = false;
+    let mut stays = false;
+    for (j, filter) in table.bearers[i].row.iter().enumerate() {
+        let held = filter.held();
+        holds = holds | held;
+        stays = stays | (held & !marks[j]);
+    }
+    holds & !stays
+}
+
+// A dedicated bearer keeps one filter of those it has.
+#[tactic(auto, using(crate::proofs::Changing::deleted_made), unfolding(crate::specs::Modify::deleted_filters))]
+fn delete_filters(table: &mut Table, bearer: u8, marks: &[bool; PLACES]) -> Reply
+    requires { RightLists table.old }
+    ensures { record { table = table.new; reply = result } ≡ deleted_filters table.old bearer marks.now }
+{
+    table.typed();
+    if table.role_of(bearer).is_dedicated() && empties(table, index_of(bearer), marks) {
+        return Reply::reject(bearer, Cause::TftSemantics);
+    }
+    table.delete(index_of(bearer), marks);
+    Reply::accept(bearer)
+}
+
+#[tactic(auto, unfolding(crate::specs::Modify::deleted_tft))]
+fn delete_tft(table: &mut Table, bearer: u8) -> Reply
+    requires { RightLists table.old }
+    ensures { record { table = table.new; reply = result } ≡ deleted_tft table.old bearer }
+{
+    table.typed();
+    table.delete(index_of(bearer), &[true; PLACES]);
+    Reply::accept(bearer)
+}
+
+#[tactic(auto, unfolding(crate::specs::Modify::modify_named, crate::specs::Modify::modify_read))]
+fn modify_named(table: &mut Table, bearer: u8, value: &[u8]) -> Reply
+    requires { RightLists table.old }
+    ensures { record { table = table.new; reply = result } ≡ modify_named table.old bearer value.now }
+{
+    table.typed();
+    let role = table.role_of(bearer);
+    if role.is_idle() {
+        return Reply::reject(bearer, Cause::BearerIdentity);
+    }
+    if !head_fine(value) {
+        return Reply::reject_head(bearer);
+    }
+    if role.is_dedicated() && operation_of(value) == DELETE_TFT {
+        return Reply::reject(bearer, Cause::TftSemantics);
+    }
+    let element = read(value);
+    match element.answer {
+        Answer::Refused(refusal) => Reply::reject_for(bearer, refusal),
+        Answer::Filters(SetOperation::Create) => lay(table, bearer, &element.filters, true),
+        Answer::Filters(SetOperation::Add | SetOperation::Replace) => {
+            lay(table, bearer, &element.filters, false)
+        }
+        Answer::Identifiers => delete_filters(table, bearer, &element.marks),
+        Answer::Bare(BareOperation::DeleteTft) => delete_tft(table, bearer),
+        Answer::Bare(BareOperation::NoOperation) => Reply::accept(bearer),
     }
 }
 
-#[tactic(auto, using(crate::proofs::Deciding::decided_home, crate::proofs::Deciding::decided_means, crate::proofs::Applying::listed_there, crate::proofs::Applying::marks_long, crate::proofs::Theorems::modify_malformed, crate::proofs::Applying::see_done, crate::proofs::Applying::see_start, crate::proofs::Applying::seen_role, crate::proofs::Applying::seen_there, crate::proofs::Rows::store_done, crate::proofs::Rows::store_start, crate::proofs::Applying::stored_there, table::proofs::Typed::table_in_range, table::proofs::Meaning::well_says, crate::proofs::Applying::whole))]
-pub fn modify(t: Table, bearer: u8, transaction: u8, value: &[u8]) -> Outcome
-    ensures { result ≡ modify_of t bearer transaction value.now }
+// On a table that is lent.
+#[tactic(auto, using(crate::proofs::Changing::closed_right, crate::proofs::Changing::well_right), unfolding(crate::specs::Modify::modify_of))]
+pub fn modify_on(table: &mut Table, bearer: u8, transaction: u8, value: &[u8]) -> Reply
+    ensures { record { table = table.new; reply = result } ≡ modify_of table.old bearer transaction value.now }
 {
-    if !well_formed(t) {
-        return answer_with(t, Answer::Refused(Refusal::NotWellFormed));
+    table.typed();
+    if !table.well_formed() {
+        return Reply::refuse(Refusal::NotWellFormed);
     }
-    let k = index_of(bearer);
-    let e = read(value);
-    let said = e.answer;
-    let new = e.filters;
-    let taken = taken_by(new);
-    let gone = gone_by(e);
-    let mut s = t;
-    let mut seen = [nothing_seen(); BEARERS];
-    for i in 0..BEARERS {
-        let b = s.bearers[i];
-        if is_touched(b, i == k, &taken[..]) {
-            let c = s.bearers[i];
-            seen[i] = see(c, i == k, &taken[..], &gone[..]);
-        } else {
-            seen[i] = glance_at(b);
-        }
+    if mismatches(table, transaction) {
+        return Reply::reject(bearer, Cause::Transaction);
     }
-    let d = decide(seen, bearer, transaction, said, value);
-    for i in 0..BEARERS {
-        let one = seen[i];
-        let fate = fate_of(one, i, i == k, d, transaction);
-        if fate.cut {
-            s.bearers[i] = idle_bearer();
-        } else if fate.change {
-            let b = s.bearers[i];
-            s.bearers[i] = overlaid(b, fate, i == k, new, &taken[..], &gone[..]);
-        }
-    }
-    if d.change | d.cut {
-        s = relisted(s, only(d.connection));
-    }
-    Outcome {
-        table: s,
-        reply: reply_of(seen, d),
-    }
+    close(table, transaction);
+    modify_named(table, bearer, value)
+}
+
+pub fn modify(table: Table, bearer: u8, transaction: u8, value: &[u8]) -> Outcome
+    ensures { result ≡ modify_of table bearer transaction value.now }
+{
+    let mut table = table;
+    let reply = modify_on(&mut table, bearer, transaction, value);
+    Outcome { table, reply }
 }

@@ -1,12 +1,14 @@
 // What a call gives.
-ghost use Rattle.std.specs.Prelude.{◌≡◌, []};
-ghost use Rattle.calls.specs.Reply.{cause_number, refusal_number, number_of, cause_of, reject_for, follow_of, answered};
+ghost use Rattle.std.specs.Prelude.{◌≡◌, ◌+◌, ◌<◌, [], set};
+ghost use Rattle.table.specs.Bearers.{bearer_count};
+ghost use Rattle.calls.specs.declared.reply.Answer.TheVariants.{Accept, Refused};
+ghost use Rattle.calls.specs.Reply.{cause_number, refusal_number, number_of, cause_of, reject, reject_head, reject_for, follow_of, answered};
 
 use table::Table;
 use table::bearer::BEARERS;
 
-// 41, 42, 43, 44, 45 and 47 of document 01.
-#[derive(Clone, Copy)]
+// 41, 42, 43, 44, 45 and 47.
+#[derive(Clone, Copy, PartialEq, Eq)]
 pub enum Cause {
     TftSemantics,
     TftSyntax,
@@ -16,8 +18,8 @@ pub enum Cause {
     Transaction,
 }
 
-// 1, 3, 4, 5, 6 and 7 of document 01, and 12, 15 and 16 of document 02.
-#[derive(Clone, Copy)]
+// 1, 3, 4, 5, 6, 7, 12, 15 and 16.
+#[derive(Clone, Copy, PartialEq, Eq)]
 pub enum Refusal {
     NotWellFormed,
     NotOpen,
@@ -30,18 +32,12 @@ pub enum Refusal {
     MessageFraming,
 }
 
-// Document 02, 6/14: where the element's value broke, an offset from 0 in it. What is wrong elsewhere has no place.
-#[derive(Clone, Copy)]
-pub enum Place {
-    Nowhere,
-    At(u8),
-}
-
-// Accept and Reject are sent; of the others no reply is. The place is not sent.
-#[derive(Clone, Copy)]
+// Accept and Reject are sent; of the others no reply is. The place, which is not sent, is where the element's value broke, an offset from 0 in it; what is
+// wrong elsewhere has none. The refusal is among the answers and no Err: a caller's answer is one of this list.
+#[derive(Clone, Copy, PartialEq, Eq)]
 pub enum Answer {
     Accept(u8),
-    Reject(u8, Cause, Place),
+    Reject(u8, Cause, Option<u8>),
     Release(u8),
     Reattach,
     Started(u8),
@@ -50,7 +46,7 @@ pub enum Answer {
     Refused(Refusal),
 }
 
-// Identities in rising order, zero beyond the count.
+// Identities in rising order, zero beyond the count: a list that needs no heap.
 #[derive(Clone, Copy)]
 pub struct FollowUps {
     pub count: u8,
@@ -69,86 +65,137 @@ pub struct Outcome {
     pub reply: Reply,
 }
 
-fn cause_number(cause: Cause) -> u8
-    ensures { result ≡ cause_number cause }
-{
-    match cause {
-        Cause::TftSemantics => 41,
-        Cause::TftSyntax => 42,
-        Cause::BearerIdentity => 43,
-        Cause::FilterSemantics => 44,
-        Cause::FilterSyntax => 45,
-        Cause::Transaction => 47,
+impl Cause {
+    fn number(self) -> u8
+        ensures { result ≡ cause_number self }
+    {
+        match self {
+            Cause::TftSemantics => 41,
+            Cause::TftSyntax => 42,
+            Cause::BearerIdentity => 43,
+            Cause::FilterSemantics => 44,
+            Cause::FilterSyntax => 45,
+            Cause::Transaction => 47,
+        }
     }
 }
 
-fn refusal_number(refusal: Refusal) -> u8
-    ensures { result ≡ refusal_number refusal }
-{
-    match refusal {
-        Refusal::NotWellFormed => 1,
-        Refusal::NotOpen => 3,
-        Refusal::NoIdentity => 4,
-        Refusal::AlreadyOpen => 5,
-        Refusal::NoBearer => 6,
-        Refusal::BearerBusy => 7,
-        Refusal::StatusLength => 12,
-        Refusal::UnknownMessage => 15,
-        Refusal::MessageFraming => 16,
+impl From<element::Cause> for Cause {
+    ghost from_gives = { λ read cause. cause ≡ cause_of read };
+
+    fn from(cause: element::Cause) -> Cause {
+        match cause {
+            element::Cause::Operation => Cause::TftSyntax,
+            element::Cause::Semantics => Cause::FilterSemantics,
+            element::Cause::Coding => Cause::FilterSyntax,
+        }
     }
 }
 
-// The number of documents 01 and 02; 0 where nothing is refused.
+impl Refusal {
+    fn number(self) -> u8
+        ensures { result ≡ refusal_number self }
+    {
+        match self {
+            Refusal::NotWellFormed => 1,
+            Refusal::NotOpen => 3,
+            Refusal::NoIdentity => 4,
+            Refusal::AlreadyOpen => 5,
+            Refusal::NoBearer => 6,
+            Refusal::BearerBusy => 7,
+            Refusal::StatusLength => 12,
+            Refusal::UnknownMessage => 15,
+            Refusal::MessageFraming => 16,
+        }
+    }
+}
+
+// The number of what is refused; 0 where nothing is.
 pub fn number(answer: Answer) -> u8
     ensures { result ≡ number_of answer }
 {
     match answer {
-        Answer::Accept(_) => 0,
-        Answer::Reject(_, cause, _) => cause_number(cause),
-        Answer::Release(_) => 0,
-        Answer::Reattach => 0,
-        Answer::Started(_) => 0,
-        Answer::Closed(_) => 0,
-        Answer::Synchronised => 0,
-        Answer::Refused(refusal) => refusal_number(refusal),
+        Answer::Reject(_, cause, _) => cause.number(),
+        Answer::Refused(refusal) => refusal.number(),
+        Answer::Accept(_)
+        | Answer::Release(_)
+        | Answer::Reattach
+        | Answer::Started(_)
+        | Answer::Closed(_)
+        | Answer::Synchronised => 0,
     }
 }
 
-fn cause_of(cause: element::Cause) -> Cause
-    ensures { result ≡ cause_of cause }
-{
-    match cause {
-        element::Cause::Operation => Cause::TftSyntax,
-        element::Cause::Semantics => Cause::FilterSemantics,
-        element::Cause::Coding => Cause::FilterSyntax,
+impl FollowUps {
+    #[tactic(auto, unfolding(laws::specs::Index::pad))]
+    pub(crate) fn none() -> FollowUps
+        ensures { result ≡ follow_of [] }
+    {
+        FollowUps {
+            count: 0,
+            bearers: [0; BEARERS],
+        }
+    }
+
+    pub(crate) fn push(&mut self, bearer: u8)
+        requires { self.old.count < bearer_count }
+        ensures { self.new ≡ record { count = self.old.count + 1; bearers = set self.old.bearers self.old.count bearer } }
+    {
+        self.bearers[self.count as usize] = bearer;
+        self.count += 1;
     }
 }
 
-// The reader's refusal, in the reply.
-pub(crate) fn reject_for(bearer: u8, refusal: element::Refusal) -> Answer
-    ensures { result ≡ reject_for bearer refusal }
-{
-    let cause = refusal.cause;
-    Answer::Reject(bearer, cause_of(cause), Place::At(refusal.place))
-}
+impl Reply {
+    // Nobody follows.
+    pub fn alone(answer: Answer) -> Reply
+        ensures { result ≡ record { answer = answer; follow = follow_of [] } }
+    {
+        Reply {
+            answer,
+            follow: FollowUps::none(),
+        }
+    }
 
-#[tactic(auto, unfolding(laws::specs::Index::pad))]
-pub(crate) fn none_follow() -> FollowUps
-    ensures { result ≡ follow_of [] }
-{
-    FollowUps {
-        count: 0,
-        bearers: [0; BEARERS],
+    pub(crate) fn accept(bearer: u8) -> Reply
+        ensures { result ≡ record { answer = Accept bearer; follow = follow_of [] } }
+    {
+        Reply::alone(Answer::Accept(bearer))
+    }
+
+    // What is wrong lies not in the element.
+    pub(crate) fn reject(bearer: u8, cause: Cause) -> Reply
+        ensures { result ≡ record { answer = reject bearer cause; follow = follow_of [] } }
+    {
+        Reply::alone(Answer::Reject(bearer, cause, None))
+    }
+
+    pub(crate) fn reject_head(bearer: u8) -> Reply
+        ensures { result ≡ record { answer = reject_head bearer; follow = follow_of [] } }
+    {
+        Reply::alone(Answer::Reject(bearer, Cause::TftSyntax, Some(0)))
+    }
+
+    // The reader's refusal, in the reply.
+    pub(crate) fn reject_for(bearer: u8, refusal: element::Refusal) -> Reply
+        ensures { result ≡ record { answer = reject_for bearer refusal; follow = follow_of [] } }
+    {
+        Reply::alone(Answer::Reject(bearer, refusal.cause.into(), Some(refusal.place)))
+    }
+
+    pub fn refuse(refusal: Refusal) -> Reply
+        ensures { result ≡ record { answer = Refused refusal; follow = follow_of [] } }
+    {
+        Reply::alone(Answer::Refused(refusal))
     }
 }
 
 // Nobody follows.
-pub fn answer_with(t: Table, answer: Answer) -> Outcome
-    ensures { result ≡ answered t answer }
+pub fn answer_with(table: Table, answer: Answer) -> Outcome
+    ensures { result ≡ answered table answer }
 {
-    let follow = none_follow();
     Outcome {
-        table: t,
-        reply: Reply { answer, follow },
+        table,
+        reply: Reply::alone(answer),
     }
 }

@@ -1,4 +1,0 @@
-pub mod Walk
-pub mod Overlay
-pub mod Decide
-pub mod Plain
