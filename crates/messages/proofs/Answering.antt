@@ -1,4 +1,5 @@
 -- What calls answer to a message: an accept or a reject with the bearer received, or nothing that is sent.
+use Rattle.std.specs.Prelude.{Option}
 use mathlib.Core.Path.{◌≡◌, refl}
 use mathlib.Core.Bool.{Bool, true, false, ◌&&◌}
 use mathlib.Core.List.{List, [], ◌∷◌}
@@ -20,13 +21,13 @@ use Rattle.table.specs.Tables.{build}
 use Rattle.table.specs.WellFormed.{well_formed}
 use Rattle.calls.specs.declared.reply.Cause.{Cause}
 use Rattle.calls.specs.declared.reply.Cause.TheVariants.{TftSemantics, TftSyntax, BearerIdentity, Transaction}
-use Rattle.calls.specs.declared.reply.Place.{Place}
 use Rattle.calls.specs.declared.reply.Refusal.TheVariants.{NotWellFormed}
 use Rattle.calls.specs.declared.reply.Answer.{Answer}
 use Rattle.calls.specs.declared.reply.Answer.TheVariants.{Accept, Reject, Release, Reattach, Started, Closed, Synchronised, Refused}
 use Rattle.calls.specs.declared.reply.Outcome.{Outcome}
 use Rattle.calls.specs.Reply.{cause_of}
-use Rattle.calls.specs.Steps.{is_open, closed, opened_view, empties, home}
+use Rattle.calls.specs.Steps.{is_open, closed, empties, home}
+use Rattle.table.specs.Changes.{opened_view}
 use Rattle.calls.specs.Lay.{released, only_connection, lay_or_release, lay_within, lay_of}
 use Rattle.calls.specs.Modify.{mismatch, creates, deleted_filters, deleted_tft, modified_by, modify_read, modify_named, modify_of}
 use Rattle.calls.specs.Others.{available, activated_by, activate_read, activate_named, activate_dedicated_of, deactivate_of, reject_of}
@@ -36,7 +37,7 @@ use Rattle.messages.specs.Meaning.{bearer_of}
 use Rattle.messages.proofs.Accepting.{no_operation_lem}
 
 -- ---- what holds of 1, of the bearer's rejects and accept, and of the end of a connection holds of each answer of modify and of dedicated activation
-module _ (P : Answer → Type 0) (bearer : ℕ) (malformed : P (Refused NotWellFormed)) (rejects : (cause : Cause) (place : Place) → P (Reject bearer cause place)) (accepts : P (Accept bearer))
+module _ (P : Answer → Type 0) (bearer : ℕ) (malformed : P (Refused NotWellFormed)) (rejects : (cause : Cause) (place : Option ℕ) → P (Reject bearer cause place)) (accepts : P (Accept bearer))
     (ends : (a : Answer) → EndsConnection a → P a) where
   abbrev Gives : Outcome → Type 0
   Gives o = P o.reply.answer

@@ -4,6 +4,9 @@ use mathlib.Core.Path.{subst}
 use mathlib.Core.List.{List, [], ◌∷◌}
 use Prim.Native.Nat.{ℕ}
 use lib.ListN.{take, drop}
+use Rattle.std.specs.Prelude.{Option, Some, None, Result, Ok, Err}
+use Rattle.messages.specs.declared.layout.Part.{Part}
+use Rattle.messages.specs.declared.layout.Message.{Message}
 use Rattle.table.specs.declared.bearer.Table.{Table}
 use Rattle.calls.specs.declared.reply.Outcome.{Outcome}
 use Rattle.calls.specs.Modify.{modify_of}
@@ -11,13 +14,9 @@ use Rattle.calls.specs.Others.{activate_dedicated_of, deactivate_of, reject_of}
 use Rattle.messages.specs.declared.layout.Kind.{Kind}
 use Rattle.messages.specs.declared.layout.Kind.TheVariants.{DedicatedRequest, DedicatedAccept, DedicatedReject, ModifyRequest, ModifyAccept}
 use Rattle.messages.specs.declared.layout.Kind.TheVariants.{ModifyReject, DeactivateRequest, DeactivateAccept, ModificationReject}
-use Rattle.messages.specs.declared.layout.Tft.{Tft}
-use Rattle.messages.specs.declared.layout.Tft.TheVariants.{Absent, At}
 use Rattle.messages.specs.declared.layout.Fault.{Fault}
 use Rattle.messages.specs.declared.layout.Fault.TheVariants.{Unknown}
-use Rattle.messages.specs.declared.layout.Parsed.{Parsed}
-use Rattle.messages.specs.declared.layout.Parsed.TheVariants.{Read, Refused}
-use Rattle.messages.specs.Read.{Octets, none, those, octets_at, said_by}
+use Rattle.messages.specs.Read.{octets_at, said_by}
 use Rattle.messages.specs.Write.{value_of}
 use Rattle.messages.specs.Handle.{request_of, refused_of, call_by, handled_by, handle_of}
 use Rattle.messages.proofs.Accepting.{no_operation_lem}
@@ -30,10 +29,10 @@ module _ (t : Table) (Q : List ℕ → Type 0) (P : Outcome → Type 0)
     (deactivates : (bearer x : ℕ) → P (deactivate_of t bearer x))
     (rejects : (x why : ℕ) → P (reject_of t x why))
     (message : List ℕ) (nothing : Q []) (idle : Q (0xC0 ∷ [])) (part : (n k : ℕ) → Q (take n (drop k message))) where
-  by_call : (kind : Kind) (tft : Octets) → Q (value_of tft) → (bearer x : ℕ) → P (call_by kind tft t bearer x)
+  by_call : (kind : Kind) (tft : Option (List ℕ)) → Q (value_of tft) → (bearer x : ℕ) → P (call_by kind tft t bearer x)
   by_call (DedicatedRequest link) tft q bearer x = activates bearer link x (value_of tft) q
-  by_call ModifyRequest none q bearer x = subst P (no_operation_lem t bearer x) (modifies bearer x (0xC0 ∷ []) idle)
-  by_call ModifyRequest (those value) q bearer x = modifies bearer x value q
+  by_call ModifyRequest None q bearer x = subst P (no_operation_lem t bearer x) (modifies bearer x (0xC0 ∷ []) idle)
+  by_call ModifyRequest (Some value) q bearer x = modifies bearer x value q
   by_call (DeactivateRequest why) tft q bearer x = deactivates bearer x
   by_call (ModificationReject why) tft q bearer x = rejects x why
   by_call DedicatedAccept tft q bearer x = refused Unknown
@@ -42,13 +41,13 @@ module _ (t : Table) (Q : List ℕ → Type 0) (P : Outcome → Type 0)
   by_call (ModifyReject why) tft q bearer x = refused Unknown
   by_call DeactivateAccept tft q bearer x = refused Unknown
 
-  asked : (tft : Tft) → Q (value_of (octets_at message tft))
-  asked Absent = nothing
-  asked (At from n) = part n from
+  asked : (tft : Option Part) → Q (value_of (octets_at message tft))
+  asked None = nothing
+  asked (Some p) = part p.octets p.from
 
-  by_read : (parsed : Parsed) → P (handled_by (said_by parsed message) t).outcome
-  by_read (Refused fault) = refused fault
-  by_read (Read m) = by_call m.kind (octets_at message m.tft) (asked m.tft) m.bearer m.transaction
+  by_read : (parsed : Result Message Fault) → P (handled_by (said_by parsed message) t).outcome
+  by_read (Err fault) = refused fault
+  by_read (Ok m) = by_call m.kind (octets_at message m.tft) (asked m.tft) m.bearer m.transaction
 
   pub carried_over : P (handle_of t message).outcome
   unfolding handle_of

@@ -1,3 +1,4 @@
+pub mod Listing
 pub mod Turns
 pub mod Inside
 pub mod Accepting

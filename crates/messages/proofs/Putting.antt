@@ -1,35 +1,33 @@
 -- A message written, part by part.
 -- Assumes nothing.
-use mathlib.Core.Path.{◌≡◌, refl, sym, ap, ◌∙◌}
+use mathlib.Core.Path.{◌≡◌, refl, sym}
 use mathlib.Core.Bool.{Bool, true, false, ◌&&◌}
-use mathlib.Core.List.{List, [], ◌++◌}
-use Prim.Native.Nat.{ℕ, ◌+◌, ◌≤◌, ◌<◌}
-use native.Mathlib.Nat.{zero-add, le_refl}
+use mathlib.Core.List.{List, [], ◌++◌, append_assoc}
+use Prim.Native.Nat.{ℕ, ◌+◌, ◌-◌, ◌≤◌, ◌<◌}
 use native.Mathlib.Omega.{arith}
 use lib.Dec.{leb}
 use lib.ListN.{length, take, drop, length-append}
-use lib.Seq.{sets, sets-eq, take_all}
+use lib.Seq.{take-append_seam, drop-append_seam, drop-drop}
+use denote.Ref.{Bor}
 use borrow.Author.Tests.{leb-true, le-leb, lt-leb}
-use Rattle.laws.proofs.Parts.{stores_join}
+use Rattle.std.specs.Prelude.{Option, Some, None, option_map, option_copied, unwrap_or}
 use Rattle.laws.proofs.Tests.{both}
-use Rattle.messages.specs.declared.layout.Mandatory.{Mandatory}
 use Rattle.messages.specs.declared.layout.Carries.{Carries}
 use Rattle.messages.specs.declared.layout.Carries.TheVariants.{Always, Maybe, Never}
-use Rattle.messages.specs.declared.write.MessageWritten.TheVariants.{Unreadable, NoRoom}
 use Rattle.messages.specs.Layout.{row_of, carried, type_of}
-use Rattle.messages.specs.Read.{Octets, none, those, Fields}
-use Rattle.messages.specs.Write.{largest_identity, carried_fine, longest_tft, tft_fine, writable, value_of, body_of, front_of, octets_of, leaves, wrote, write_of, given}
-use Rattle.messages.specs.Inner.Walk.{head_of}
-use Rattle.messages.proofs.Turns.{front_short, front_is}
+use Rattle.messages.specs.Read.{Fields}
+use Rattle.messages.specs.declared.write.MessageUnwritten.TheVariants.{Unreadable, NoRoom}
+use Rattle.messages.specs.Write.{largest_identity, carried_fine, longest_tft, tft_fine, writable, value_of, front_of, octets_of, leaves, wrote, write_of}
+use Rattle.messages.proofs.Turns.{front_short}
 
 -- ---- what can be read back
-by_short : (carries : Carries) (tft : Octets) → tft_fine carries tft ≡ true → length (value_of tft) ≤ longest_tft
-by_short Always none e = omega arith
-by_short Always (those value) e = leb-true (length value) longest_tft e
-by_short Maybe none e = omega arith
-by_short Maybe (those value) e = leb-true (length value) longest_tft e
-by_short Never none e = omega arith
-by_short Never (those value) e = let z : ◌≡◌ {A = ℕ} 0 1 = cc in absurd (omega arith)
+by_short : (carries : Carries) (tft : Option (List ℕ)) → tft_fine carries tft ≡ true → length (value_of tft) ≤ longest_tft
+by_short Always None e = omega arith
+by_short Always (Some value) e = leb-true (length value) longest_tft e
+by_short Maybe None e = omega arith
+by_short Maybe (Some value) e = leb-true (length value) longest_tft e
+by_short Never None e = omega arith
+by_short Never (Some value) e = let z : ◌≡◌ {A = ℕ} 0 1 = cc in absurd (omega arith)
 
 module _ (f : Fields) (e : writable f ≡ true) where
   abbrev named : Bool
@@ -45,31 +43,24 @@ module _ (f : Fields) (e : writable f ≡ true) where
 
 -- ---- the octets
 pub front_few : (f : Fields) → length (front_of f) ≤ 7
-front_few f = by (row_of f.kind).mandatory f.tft
-  where
-    x : ℕ
-    x = carried f.kind
-
-    by : (m : Mandatory) (tft : Octets) → length (head_of f.bearer f.transaction (type_of f.kind) (body_of m x tft)) ≤ 7
-    by m none = rw (← front_is m x false []) (front_short m f.bearer f.transaction (type_of f.kind) x false 0)
-    by m (those value) = rw (← front_is m x true value) (front_short m f.bearer f.transaction (type_of f.kind) x true (length value))
+front_few f = front_short (row_of f.kind).mandatory f.bearer f.transaction (type_of f.kind) (carried f.kind) (option_map length f.tft)
 
 pub octets_long : (f : Fields) → length (octets_of f) ≡ length (front_of f) + length (value_of f.tft)
 unfolding octets_of
 octets_long f = length-append (front_of f) (value_of f.tft)
 
--- of the octets that come with a message, those of its TFT
-pub tft_taken : (there : Bool) (value : List ℕ) → take (length (value_of (given there value))) value ≡ value_of (given there value)
-tft_taken true value = take_all (length value) value (le_refl (length value))
-tft_taken false value = refl
+-- the value that the code has, where there is one
+pub value_behind : (tft : Option (Bor (List ℕ))) (empty : Bor (List ℕ)) → empty.now ≡ [] → (unwrap_or tft empty).now ≡ value_of (option_copied tft)
+value_behind None empty e = e
+value_behind (Some value) empty e = refl
 
 -- stored in two parts from the start of a buffer
-pub octets_stored : (f : Fields) (b : List ℕ) → length (octets_of f) ≤ length b
-    → sets (sets b 0 (front_of f)) (length (front_of f)) (value_of f.tft) ≡ octets_of f ++ drop (length (octets_of f)) b
-unfolding octets_of
-octets_stored f b l =
-    ap (λ (k : ℕ). sets (sets b 0 (front_of f)) k (value_of f.tft)) (sym (zero-add (length (front_of f)))) ∙ stores_join (front_of f) (value_of f.tft) b 0 (length (front_of f)) refl
-    ∙ sets-eq (front_of f ++ value_of f.tft) b 0 (omega arith) ∙ ap (λ (k : ℕ). (front_of f ++ value_of f.tft) ++ drop k b) (zero-add (length (front_of f ++ value_of f.tft)))
+pub stored : (xs ys b : List ℕ)
+    → take (length xs) (xs ++ drop (length xs) b) ++ (ys ++ drop (length xs + length ys - length xs) (drop (length xs) (xs ++ drop (length xs) b)))
+    ≡ (xs ++ ys) ++ drop (length (xs ++ ys)) b
+stored xs ys b =
+    let k : length xs + length ys - length xs ≡ length ys = omega arith in
+    rw (take-append_seam, k, drop-append_seam, drop-drop, length-append) (sym (append_assoc xs ys (drop (length xs + length ys) b)))
 
 -- ---- the writer, test by test
 module _ (f : Fields) (b : List ℕ) where

@@ -9,8 +9,9 @@ use lib.Dec.{leb}
 use lib.ListN.{length, take, drop, get_or}
 use lib.Seq.{take-length, drop-length, take-append_seam, drop-append_seam, drop-append-add}
 use borrow.Author.Tests.{le-leb, leb-true}
+use Rattle.std.specs.Prelude.{Option, Some, None, option_map, Ok}
+use Rattle.messages.specs.declared.layout.Part.{Part}
 use Rattle.laws.specs.Says.{pick, Says}
-use Rattle.laws.specs.Says.{pick}
 use Rattle.laws.specs.Lists.{All}
 use Rattle.laws.proofs.Lists.{all_append}
 use Rattle.laws.proofs.Says.{picked, says_le, unless_here, unless_later, where_here}
@@ -23,16 +24,13 @@ use Rattle.messages.specs.declared.layout.Mandatory.{Mandatory}
 use Rattle.messages.specs.declared.layout.Mandatory.TheVariants.{Nothing, Cause, Activation}
 use Rattle.messages.specs.declared.layout.Carries.{Carries}
 use Rattle.messages.specs.declared.layout.Carries.TheVariants.{Always, Maybe, Never}
-use Rattle.messages.specs.declared.layout.Tft.{Tft}
-use Rattle.messages.specs.declared.layout.Tft.TheVariants.{Absent, At}
-use Rattle.messages.specs.declared.read.Elements.TheVariants.{Found}
-use Rattle.messages.specs.declared.write.MessageWritten.TheVariants.{Wrote, Unreadable, NoRoom}
-use Rattle.messages.specs.Layout.{discriminator, Listed, row_of, carried, type_of, kind_of, form_in, modify_request_lists}
-use Rattle.messages.specs.Read.{elements, activation_start, read_named, read_of, Octets, none, those, Fields, says, said_by, said_of}
-use Rattle.messages.specs.Write.{largest_identity, longest_tft, carried_fine, tft_fine, writable, value_of, body_of, front_of, octets_of, message_number, MessageOutcome}
+use Rattle.messages.specs.declared.listed.Listed.{Listed}
+use Rattle.messages.specs.Layout.{discriminator, row_of, carried, type_of, kind_of, form_in, modify_request_lists}
+use Rattle.messages.specs.Read.{part, elements, activation_start, read_named, read_of, Fields, said_by, said_of}
+use Rattle.messages.specs.declared.write.MessageUnwritten.TheVariants.{Unreadable, NoRoom}
+use Rattle.messages.specs.Write.{head_of, largest_identity, longest_tft, carried_fine, tft_fine, writable, value_of, body_of, front_of, octets_of, message_number, MessageOutcome}
 use Rattle.messages.specs.Write.{leaves, wrote, write_of}
 use Rattle.messages.specs.Meaning.{OctetsInRange, FieldsInRange, Readable, WriteNumbered}
-use Rattle.messages.specs.Inner.Walk.{head_of}
 use Rattle.messages.proofs.Inside.{parts, bearer_small}
 use Rattle.messages.proofs.Reading.{fields_in, behind, kind_fine, has_fine, read_has, read_short}
 
@@ -48,34 +46,34 @@ said_head bearer transaction type xs =
     rw (long, ours)
 
 -- a value that is passed to its end
-pass : (listed : List Listed) (at : ℕ) (tft : Tft) (xs : List ℕ) → elements listed (length xs) at tft xs ≡ Found tft
+pass : (listed : List Listed) (at : ℕ) (tft : Option Part) (xs : List ℕ) → elements listed (length xs) at tft xs ≡ Ok tft
 unfolding elements
 pass listed at tft [] = refl
 pass listed at tft (x ∷ xs) = pass listed (suc at) tft xs
 
 -- the TFT of a modify request
-pass_tft : (value : List ℕ) → elements modify_request_lists 0 3 Absent (0x36 ∷ length value ∷ value) ≡ Found (At 5 (length value))
+pass_tft : (value : List ℕ) → elements modify_request_lists 0 3 None (0x36 ∷ length value ∷ value) ≡ Ok (Some (part 5 (length value)))
 unfolding elements form_in
 pass_tft value =
     let e : 1 + length value ≡ suc (length value) = omega arith in
-    rw e (pass modify_request_lists 5 (At 5 (length value)) value)
+    rw e (pass modify_request_lists 5 (Some (part 5 (length value))) value)
 
-no_tft_lem : (tft : Octets) → tft_fine Never tft ≡ true → tft ≡ none
-no_tft_lem none e = refl
-no_tft_lem (those value) e = absurd (false≢true e)
+no_tft_lem : (tft : Option (List ℕ)) → tft_fine Never tft ≡ true → tft ≡ None
+no_tft_lem None e = refl
+no_tft_lem (Some value) e = absurd (false≢true e)
 
 module _ (bearer transaction : ℕ) where
-  abbrev fields : Kind → Octets → Fields
+  abbrev fields : Kind → Option (List ℕ) → Fields
   fields kind tft = record { kind = kind; bearer = bearer; transaction = transaction; tft = tft }
 
   same_bearer : (bearer * 16 + discriminator) / 16 ≡ bearer
   same_bearer = omega arith
 
-  reads : (kind : Kind) (tft : Octets) → carried_fine (row_of kind).mandatory (carried kind) ≡ true → tft_fine (row_of kind).tft tft ≡ true
-      → said_of (octets_of (fields kind tft)) ≡ says (fields kind tft)
+  reads : (kind : Kind) (tft : Option (List ℕ)) → carried_fine (row_of kind).mandatory (carried kind) ≡ true → tft_fine (row_of kind).tft tft ≡ true
+      → said_of (octets_of (fields kind tft)) ≡ Ok (fields kind tft)
   unfolding octets_of kind_of activation_start elements
-  reads (DedicatedRequest link) none c t = absurd (false≢true t)
-  reads (DedicatedRequest link) (those value) c t =
+  reads (DedicatedRequest link) None c t = absurd (false≢true t)
+  reads (DedicatedRequest link) (Some value) c t =
       let front : List ℕ = head_of bearer transaction 0xC5 (link ∷ 1 ∷ 9 ∷ length value ∷ []) in
       let fits = le-leb (7 + length value) (length (front ++ value)) (omega arith) in
       let small = leb-true link largest_identity c in
@@ -84,8 +82,8 @@ module _ (bearer transaction : ℕ) where
       rw (said_head, fits, rest, same, same_bearer, take-length)
   reads DedicatedAccept tft c t = rw (no_tft_lem tft t, said_head, same_bearer)
   reads (DedicatedReject why) tft c t = rw (no_tft_lem tft t, said_head, same_bearer)
-  reads ModifyRequest none c t = rw (said_head, same_bearer)
-  reads ModifyRequest (those value) c t = rw (said_head, pass_tft value, same_bearer, take-length)
+  reads ModifyRequest None c t = rw (said_head, same_bearer)
+  reads ModifyRequest (Some value) c t = rw (said_head, pass_tft value, same_bearer, take-length)
   reads ModifyAccept tft c t = rw (no_tft_lem tft t, said_head, same_bearer)
   reads (ModifyReject why) tft c t = rw (no_tft_lem tft t, said_head, same_bearer)
   reads (DeactivateRequest why) tft c t = rw (no_tft_lem tft t, said_head, same_bearer)
@@ -107,7 +105,7 @@ fine f w =
     let first = both b c all.0 in
     record { bearer = leb-true f.bearer largest_identity first.0; carried = first.1; tft = all.1 }
 
-pub written_reads : (f : Fields) → writable f ≡ true → said_of (octets_of f) ≡ says f
+pub written_reads : (f : Fields) → writable f ≡ true → said_of (octets_of f) ≡ Ok f
 written_reads f w = reads f.bearer f.transaction f.kind f.tft (fine f w).carried (fine f w).tft
 
 -- ---- what reads can be written
@@ -115,7 +113,7 @@ can_write : (f : Fields) → Fine f → writable f ≡ true
 unfolding writable
 can_write f g = rw (le-leb f.bearer largest_identity g.bearer, g.carried, g.tft)
 
-pub readable_writable : (message : List ℕ) (f : Fields) → All Octet message → said_of message ≡ says f → writable f ≡ true
+pub readable_writable : (message : List ℕ) (f : Fields) → All Octet message → said_of message ≡ Ok f → writable f ≡ true
 readable_writable message f o e =
     let b = behind message f e in
     let m = b.m in
@@ -128,11 +126,11 @@ readable_writable message f o e =
     }))
 
 -- ---- the octets are octets
-value_short : (carries : Carries) (tft : Octets) → tft_fine carries tft ≡ true → length (value_of tft) ≤ longest_tft
-value_short carries none e = omega arith
-value_short Always (those value) e = leb-true (length value) longest_tft e
-value_short Maybe (those value) e = leb-true (length value) longest_tft e
-value_short Never (those value) e = absurd (false≢true e)
+value_short : (carries : Carries) (tft : Option (List ℕ)) → tft_fine carries tft ≡ true → length (value_of tft) ≤ longest_tft
+value_short carries None e = omega arith
+value_short Always (Some value) e = leb-true (length value) longest_tft e
+value_short Maybe (Some value) e = leb-true (length value) longest_tft e
+value_short Never (Some value) e = absurd (false≢true e)
 
 type_octet : (kind : Kind) → Octet (type_of kind)
 type_octet (DedicatedRequest link) = omega arith
@@ -145,15 +143,17 @@ type_octet (DeactivateRequest why) = omega arith
 type_octet DeactivateAccept = omega arith
 type_octet (ModificationReject why) = omega arith
 
-body_octets : (mandatory : Mandatory) (x : ℕ) (tft : Octets) → Octet x → length (value_of tft) ≤ longest_tft → All Octet (body_of mandatory x tft)
-body_octets Nothing x none o l = tt
-body_octets Nothing x (those value) o l = (omega arith, (omega arith, tt))
+body_octets : (mandatory : Mandatory) (x : ℕ) (tft : Option (List ℕ)) → Octet x → length (value_of tft) ≤ longest_tft
+    → All Octet (body_of mandatory x (option_map length tft))
+body_octets Nothing x None o l = tt
+body_octets Nothing x (Some value) o l = (omega arith, (omega arith, tt))
 body_octets Cause x tft o l = (o, tt)
-body_octets Activation x tft o l = (o, (omega arith, (omega arith, (omega arith, tt))))
+body_octets Activation x None o l = (o, (omega arith, (omega arith, (omega arith, tt))))
+body_octets Activation x (Some value) o l = (o, (omega arith, (omega arith, (omega arith, tt))))
 
-value_octets : (tft : Octets) → OctetsInRange tft → All Octet (value_of tft)
-value_octets none r = tt
-value_octets (those value) r = r
+value_octets : (tft : Option (List ℕ)) → OctetsInRange tft → All Octet (value_of tft)
+value_octets None r = tt
+value_octets (Some value) r = r
 
 pub octets_are : (f : Fields) → FieldsInRange f → writable f ≡ true → All Octet (octets_of f)
 unfolding octets_of
@@ -193,7 +193,7 @@ write_numbers f r buffer =
     go false l = refl
 
 -- ---- what was written reads back
-pub written_back : (f : Fields) (buffer : List ℕ) (n : ℕ) → (write_of f buffer).written ≡ Wrote n → said_of (take n (write_of f buffer).buffer) ≡ says f
+pub written_back : (f : Fields) (buffer : List ℕ) (n : ℕ) → (write_of f buffer).written ≡ Ok n → said_of (take n (write_of f buffer).buffer) ≡ Ok f
 unfolding write_of
 written_back f buffer n e = go (writable f) refl (leb (length (octets_of f)) (length buffer)) e
   where
@@ -203,7 +203,7 @@ written_back f buffer n e = go (writable f) refl (leb (length (octets_of f)) (le
     out : Bool → Bool → MessageOutcome
     out w l = pick w (pick l (wrote xs buffer) (leaves NoRoom buffer)) (leaves Unreadable buffer)
 
-    go : (w : Bool) → writable f ≡ w → (l : Bool) → (out w l).written ≡ Wrote n → said_of (take n (out w l).buffer) ≡ says f
+    go : (w : Bool) → writable f ≡ w → (l : Bool) → (out w l).written ≡ Ok n → said_of (take n (out w l).buffer) ≡ Ok f
     go true w true e =
         let q : length xs ≡ n = cc in
         rw (← q, take-append_seam) (written_reads f w)
@@ -211,13 +211,13 @@ written_back f buffer n e = go (writable f) refl (leb (length (octets_of f)) (le
     go false w l e = let z : ◌≡◌ {A = ℕ} 0 1 = cc in absurd (omega arith)
 
 -- octets after those written stay
-pub written_stays : (f : Fields) (buffer : List ℕ) (n : ℕ) → (write_of f buffer).written ≡ Wrote n → drop n (write_of f buffer).buffer ≡ drop n buffer
+pub written_stays : (f : Fields) (buffer : List ℕ) (n : ℕ) → (write_of f buffer).written ≡ Ok n → drop n (write_of f buffer).buffer ≡ drop n buffer
 unfolding write_of
 written_stays f buffer n = go (writable f) (leb (length (octets_of f)) (length buffer))
   where
     go : (b c : Bool)
         → let o = pick b (pick c (wrote (octets_of f) buffer) (leaves NoRoom buffer)) (leaves Unreadable buffer) in
-        o.written ≡ Wrote n → drop n o.buffer ≡ drop n buffer
+        o.written ≡ Ok n → drop n o.buffer ≡ drop n buffer
     go true true e = let q : length (octets_of f) ≡ n = cc in rw (← q) (drop-append_seam (octets_of f) (drop (length (octets_of f)) buffer))
     go true false e = refl
     go false c e = refl

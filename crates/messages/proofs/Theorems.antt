@@ -8,6 +8,8 @@ use native.Mathlib.Omega.{arith}
 use lib.Dec.{eqb, leb}
 use lib.ListN.{length, take, drop, get_or, get_or-eq_default}
 use borrow.Author.Tests.{le-leb, leb-true, leb-false}
+use Rattle.std.specs.Prelude.{Option, Some, None, Result, Ok, Err}
+use Rattle.messages.specs.declared.layout.Part.{Part}
 use Rattle.laws.specs.Index.{pad}
 use Rattle.laws.specs.Says.{pick}
 use Rattle.laws.specs.Lists.{All, is_in}
@@ -36,19 +38,12 @@ use Rattle.calls.proofs.Places.{modify_placed, activate_placed}
 use Rattle.messages.specs.declared.layout.Kind.{Kind}
 use Rattle.messages.specs.declared.layout.Kind.TheVariants.{DedicatedRequest, DedicatedAccept, DedicatedReject, ModifyRequest, ModifyAccept}
 use Rattle.messages.specs.declared.layout.Kind.TheVariants.{ModifyReject, DeactivateRequest, DeactivateAccept, ModificationReject}
-use Rattle.messages.specs.declared.layout.Named.{Named}
-use Rattle.messages.specs.declared.layout.Named.TheVariants.{Known, Other}
 use Rattle.messages.specs.declared.layout.Fault.{Fault}
 use Rattle.messages.specs.declared.layout.Fault.TheVariants.{Unknown, Framing}
-use Rattle.messages.specs.declared.layout.Parsed.{Parsed}
-use Rattle.messages.specs.declared.layout.Parsed.TheVariants.{Read, Refused}
+use Rattle.messages.specs.declared.layout.Message.{Message}
 use Rattle.messages.specs.declared.layout.Carries.TheVariants.{Always}
-use Rattle.messages.specs.declared.layout.Tft.{Tft}
-use Rattle.messages.specs.declared.layout.Tft.TheVariants.{Absent, At}
-use Rattle.messages.specs.declared.handle.Sending.{Sending}
-use Rattle.messages.specs.declared.handle.Sending.TheVariants.{Silent, Sends}
 use Rattle.messages.specs.Layout.{head_octets, row_of, type_of, kinds_with, named_in, kind_of}
-use Rattle.messages.specs.Read.{read_of, fault_number, parsed_number, octets_at, Octets, none, those, Fields, Said, unread, says, said_by, said_of}
+use Rattle.messages.specs.Read.{read_of, fault_number, parsed_number, octets_at, Fields, said_by, said_of}
 use Rattle.messages.specs.Write.{largest_identity, writable, value_of, octets_of}
 use Rattle.messages.specs.Handle.{reply_types, request_of, asked_by, accept_of, modify_by, refusal_of, refused_of, call_by, call_of, handled_by, handle_of}
 use Rattle.messages.specs.Handle.{accepting, rejecting, sending_of, reply_fields, sent_by, answer_octets, message_of}
@@ -61,16 +56,16 @@ use Rattle.messages.proofs.Reading.{fields_in, behind, kind_type, Has, read_has}
 
 -- ---- The reader's numbers
 -- a type octet names a kind exactly where it is one of the nine
-abbrev known : Named → Bool
-known (Known kind) = true
-known Other = false
+abbrev known : Option Kind → Bool
+known (Some kind) = true
+known None = false
 
 names : (type : ℕ) (kinds : List Kind) → known (named_in kinds type) ≡ is_in type (map type_of kinds)
 unfolding is_in
 names type [] = refl
 names type (kind ∷ kinds) = go (eqb type (type_of kind)) (names type kinds)
   where
-    go : (b : Bool) → known (named_in kinds type) ≡ is_in type (map type_of kinds) → known (pick b (Known kind) (named_in kinds type)) ≡ b || is_in type (map type_of kinds)
+    go : (b : Bool) → known (named_in kinds type) ≡ is_in type (map type_of kinds) → known (pick b (Some kind) (named_in kinds type)) ≡ b || is_in type (map type_of kinds)
     go true e = refl
     go false e = e
 
@@ -79,10 +74,10 @@ unfolding kind_of
 names_nine type x = names type (kinds_with x)
 
 -- what each result says of the message
-abbrev pub Tells : List ℕ → Parsed → Type 0
-Tells message (Read m) = (head_octets ≤ length message) × Ours message
-Tells message (Refused Unknown) = (head_octets ≤ length message) × (Ours message → ⊥)
-Tells message (Refused Framing) = (length message < head_octets) ⊎ Ours message
+abbrev pub Tells : List ℕ → Result Message Fault → Type 0
+Tells message (Ok m) = (head_octets ≤ length message) × Ours message
+Tells message (Err Unknown) = (head_octets ≤ length message) × (Ours message → ⊥)
+Tells message (Err Framing) = (length message < head_octets) ⊎ Ours message
 
 module _ (message : List ℕ) where
   -- as `names_nine`, of this message
@@ -94,7 +89,7 @@ module _ (message : List ℕ) where
       read_holds message (Tells message) inl (λ l n. (l, λ ours. n ours.0)) (λ l o n. (l, λ ours. never ours.1 (sym nine ∙ ap known n)))
       (λ l o kind n. inr (o, sym nine ∙ ap known n)) (λ m p. (p.long, (p.ours, sym nine ∙ ap known p.named)))
 
-  pub unsaid : (fault : Fault) → read_of message ≡ Refused fault → (f : Fields) → said_of message ≡ says f → ⊥
+  pub unsaid : (fault : Fault) → read_of message ≡ Err fault → (f : Fields) → said_of message ≡ Ok f → ⊥
   unsaid fault r f e =
       let b = (behind message f e).read in
       let z : ◌≡◌ {A = ℕ} 0 1 = cc in
@@ -104,12 +99,12 @@ module _ (message : List ℕ) where
   unfolding said_of
   read_numbers = go (read_of message) refl tells
     where
-      go : (parsed : Parsed) → read_of message ≡ parsed → Tells message parsed → ReadNumbered message (parsed_number parsed)
-      go (Read m) r h =
+      go : (parsed : Result Message Fault) → read_of message ≡ parsed → Tells message parsed → ReadNumbered message (parsed_number parsed)
+      go (Ok m) r h =
           record { is15 = (λ e. absurd (omega arith), λ q. absurd (q.1 h.1)); is0 = (λ e. (fields_in message m, rw r), λ q. refl); given = inl refl }
-      go (Refused Unknown) r h =
+      go (Err Unknown) r h =
           record { is15 = (λ e. h, λ q. refl); is0 = (λ e. absurd (omega arith), λ q. absurd (unsaid Unknown r q.0 q.1)); given = inr (inl refl) }
-      go (Refused Framing) r h =
+      go (Err Framing) r h =
           record {
             is15 = (λ e. absurd (omega arith), λ q. ⊎_elim (λ l. absurd (omega (arith, q.0))) (λ o. absurd (q.1 o)) h);
             is0 = (λ e. absurd (omega arith), λ q. absurd (unsaid Framing r q.0 q.1));
@@ -118,44 +113,44 @@ module _ (message : List ℕ) where
 
 -- ---- What a message asks: what it says, unless it is a reply
 module _ (message : List ℕ) (f : Fields) where
-  pub said_type : said_of message ≡ says f → type_of f.kind ≡ get_or message 2 0
+  pub said_type : said_of message ≡ Ok f → type_of f.kind ≡ get_or message 2 0
   said_type e =
       let b = behind message f e in
       rw (← b.is) (kind_type (get_or message 2 0) (get_or message 3 0) b.m.kind (parts message b.m b.read).named)
 
-  asks_by : (reply : Bool) → said_by (pick reply (Refused Unknown) (read_of message)) message ≡ says f → (reply ≡ false) × (said_by (read_of message) message ≡ says f)
+  asks_by : (reply : Bool) → said_by (pick reply (Err Unknown) (read_of message)) message ≡ Ok f → (reply ≡ false) × (said_by (read_of message) message ≡ Ok f)
   asks_by true e = let z : ◌≡◌ {A = ℕ} 0 1 = cc in absurd (omega arith)
   asks_by false e = (refl, e)
 
-  pub asked_said : asked_by message ≡ says f → said_of message ≡ says f
+  pub asked_said : asked_by message ≡ Ok f → said_of message ≡ Ok f
   unfolding request_of said_of
   asked_said e = (asks_by (is_in (get_or message 2 0) reply_types) e).1
 
-  pub asked_request : asked_by message ≡ says f → is_in (type_of f.kind) reply_types ≡ false
+  pub asked_request : asked_by message ≡ Ok f → is_in (type_of f.kind) reply_types ≡ false
   unfolding request_of
   asked_request e = rw (said_type (asked_said e)) (asks_by (is_in (get_or message 2 0) reply_types) e).0
 
   -- and back: the four other kinds are asked, as is seen by computing
-  pub said_asked : is_in (type_of f.kind) reply_types ≡ false → said_of message ≡ says f → asked_by message ≡ says f
+  pub said_asked : is_in (type_of f.kind) reply_types ≡ false → said_of message ≡ Ok f → asked_by message ≡ Ok f
   unfolding request_of said_of
   said_asked r e = rw (rw (said_type e) at r) e
 
 -- ---- What it does: the call of its fields
-module _ (t : Table) (message : List ℕ) (f : Fields) (asked : asked_by message ≡ says f) where
+module _ (t : Table) (message : List ℕ) (f : Fields) (asked : asked_by message ≡ Ok f) where
   abbrev o : Outcome
   o = (handle_of t message).outcome
 
   called : o ≡ call_of f t
   unfolding handle_of
-  called = ap (λ (said : Said). (handled_by said t).outcome) asked
+  called = ap (λ (said : Result Fields Fault). (handled_by said t).outcome) asked
 
-  pub message_modifies : (value : List ℕ) → f.kind ≡ ModifyRequest → f.tft ≡ those value → o ≡ modify_of t f.bearer f.transaction value
+  pub message_modifies : (value : List ℕ) → f.kind ≡ ModifyRequest → f.tft ≡ Some value → o ≡ modify_of t f.bearer f.transaction value
   message_modifies value k v = called ∙ rw (k, v)
 
-  pub message_accepts : f.kind ≡ ModifyRequest → f.tft ≡ none → o ≡ accept_of t f.bearer f.transaction
+  pub message_accepts : f.kind ≡ ModifyRequest → f.tft ≡ None → o ≡ accept_of t f.bearer f.transaction
   message_accepts k v = called ∙ rw (k, v)
 
-  pub message_activates : (link : ℕ) (value : List ℕ) → f.kind ≡ DedicatedRequest link → f.tft ≡ those value
+  pub message_activates : (link : ℕ) (value : List ℕ) → f.kind ≡ DedicatedRequest link → f.tft ≡ Some value
       → o ≡ activate_dedicated_of t f.bearer link f.transaction value
   message_activates link value k v = called ∙ rw (k, v)
 
@@ -166,16 +161,16 @@ module _ (t : Table) (message : List ℕ) (f : Fields) (asked : asked_by message
   message_rejects why k = called ∙ rw k
 
 -- a dedicated request always has its TFT
-pub activation_has_tft : (message : List ℕ) (f : Fields) (link : ℕ) → said_of message ≡ says f → f.kind ≡ DedicatedRequest link
-    → (value : List ℕ) × (f.tft ≡ those value)
+pub activation_has_tft : (message : List ℕ) (f : Fields) (link : ℕ) → said_of message ≡ Ok f → f.kind ≡ DedicatedRequest link
+    → (value : List ℕ) × (f.tft ≡ Some value)
 activation_has_tft message f link e k =
     let b = behind message f e in
     go b.m.tft (ap (λ (f : Fields). f.tft) b.is)
     (subst (λ (kind : Kind). Has (row_of kind).tft b.m.tft) (ap (λ (f : Fields). f.kind) b.is ∙ k) (read_has message b.m b.read))
   where
-    go : (tft : Tft) → octets_at message tft ≡ f.tft → Has Always tft → (value : List ℕ) × (f.tft ≡ those value)
-    go Absent q h = absurd h
-    go (At from octets) q h = (take octets (drop from message), sym q)
+    go : (tft : Option Part) → octets_at message tft ≡ f.tft → Has Always tft → (value : List ℕ) × (f.tft ≡ Some value)
+    go None q h = absurd h
+    go (Some p) q h = (take p.octets (drop p.from message), sym q)
 
 -- a reply that is handled is refused, whatever follows its type
 pub reply_refused : (t : Table) (message : List ℕ) → well_formed t ≡ true → is_in (get_or message 2 0) reply_types ≡ true
@@ -185,9 +180,9 @@ reply_refused t message w r = rw (r, w)
 
 -- ---- The place of a reject
 -- an answer that is no reject needs none, with a TFT or without
-placed_in_lem : (tft : Octets) (a : Answer) → ((value : List ℕ) → Placed value a) → Unplaced a → PlacedIn tft a
-placed_in_lem none a p u = u
-placed_in_lem (those value) a p u = p value
+placed_in_lem : (tft : Option (List ℕ)) (a : Answer) → ((value : List ℕ) → Placed value a) → Unplaced a → PlacedIn tft a
+placed_in_lem None a p u = u
+placed_in_lem (Some value) a p u = p value
 
 module _ (t : Table) where
   accept_unplaced : (bearer x : ℕ) → Unplaced (accept_of t bearer x).reply.answer
@@ -196,7 +191,7 @@ module _ (t : Table) where
       let P : Outcome → Type 0 = λ o. Unplaced o.reply.answer in
       picked P (well_formed t) _ _ (picked P (mismatch t x) _ _ refl (picked P (is_idle (role_of (closed t x) bearer)) _ _ refl tt)) tt
 
-  reject_placed : (tft : Octets) (x why : ℕ) → PlacedIn tft (reject_of t x why).reply.answer
+  reject_placed : (tft : Option (List ℕ)) (x why : ℕ) → PlacedIn tft (reject_of t x why).reply.answer
   unfolding reject_of
   reject_placed tft x why =
       let P : Outcome → Type 0 = λ o. PlacedIn tft o.reply.answer in
@@ -204,14 +199,14 @@ module _ (t : Table) where
       (picked P (is_open t x) _ _ (placed_in_lem tft (Closed x) (λ value. tt) tt) (placed_in_lem tft (refuses_with NotOpen) (λ value. tt) tt))
       (placed_in_lem tft (refuses_with NotWellFormed) (λ value. tt) tt)
 
-  call_placed : (kind : Kind) (tft : Octets) (bearer x : ℕ) → is_in (type_of kind) reply_types ≡ false
-      → ((link : ℕ) → kind ≡ DedicatedRequest link → (value : List ℕ) × (tft ≡ those value)) → PlacedIn tft (call_by kind tft t bearer x).reply.answer
+  call_placed : (kind : Kind) (tft : Option (List ℕ)) (bearer x : ℕ) → is_in (type_of kind) reply_types ≡ false
+      → ((link : ℕ) → kind ≡ DedicatedRequest link → (value : List ℕ) × (tft ≡ Some value)) → PlacedIn tft (call_by kind tft t bearer x).reply.answer
   unfolding is_in
   call_placed (DedicatedRequest link) tft bearer x r has = let h = has link refl in rw h.1 (activate_placed t bearer link x h.0)
   call_placed DedicatedAccept tft bearer x r has = absurd (true≢false r)
   call_placed (DedicatedReject why) tft bearer x r has = absurd (true≢false r)
-  call_placed ModifyRequest none bearer x r has = accept_unplaced bearer x
-  call_placed ModifyRequest (those value) bearer x r has = modify_placed t bearer x value
+  call_placed ModifyRequest None bearer x r has = accept_unplaced bearer x
+  call_placed ModifyRequest (Some value) bearer x r has = modify_placed t bearer x value
   call_placed ModifyAccept tft bearer x r has = absurd (true≢false r)
   call_placed (ModifyReject why) tft bearer x r has = absurd (true≢false r)
   call_placed (DeactivateRequest why) tft bearer x r has =
@@ -219,7 +214,7 @@ module _ (t : Table) where
   call_placed DeactivateAccept tft bearer x r has = absurd (true≢false r)
   call_placed (ModificationReject why) tft bearer x r has = reject_placed tft x why
 
-  pub message_placed : (message : List ℕ) (f : Fields) → asked_by message ≡ says f → PlacedIn f.tft (handle_of t message).outcome.reply.answer
+  pub message_placed : (message : List ℕ) (f : Fields) → asked_by message ≡ Ok f → PlacedIn f.tft (handle_of t message).outcome.reply.answer
   unfolding handle_of
   message_placed message f asked =
       rw asked
@@ -235,13 +230,13 @@ NoReply message = Ours message × (is_in (get_or message 2 0) reply_types ≡ tr
 pub record AskNumbered (t : Table) (message : List ℕ) (number : ℕ) : Type 0 where
   pub is1 : (number ≡ 1) ↔ (WellFormed t → ⊥)
   pub is15 : (number ≡ 15) ↔ (WellFormed t × ((head_octets ≤ length message) × (NoReply message → ⊥)))
-  pub is16 : (number ≡ 16) ↔ (WellFormed t × ((length message < head_octets) ⊎ (NoReply message × (said_of message ≡ unread Framing))))
+  pub is16 : (number ≡ 16) ↔ (WellFormed t × ((length message < head_octets) ⊎ (NoReply message × (said_of message ≡ Err Framing))))
 
 -- what is asked tells of the message
-abbrev Asks : List ℕ → Said → Type 0
-Asks message (unread Unknown) = (head_octets ≤ length message) × (NoReply message → ⊥)
-Asks message (unread Framing) = (length message < head_octets) ⊎ (NoReply message × (said_of message ≡ unread Framing))
-Asks message (says f) = (head_octets ≤ length message) × (NoReply message × (said_of message ≡ says f))
+abbrev Asks : List ℕ → Result Fields Fault → Type 0
+Asks message (Err Unknown) = (head_octets ≤ length message) × (NoReply message → ⊥)
+Asks message (Err Framing) = (length message < head_octets) ⊎ (NoReply message × (said_of message ≡ Err Framing))
+Asks message (Ok f) = (head_octets ≤ length message) × (NoReply message × (said_of message ≡ Ok f))
 
 module _ (message : List ℕ) where
   -- no reply has the type 0, which stands past the end
@@ -257,10 +252,10 @@ module _ (message : List ℕ) where
   unfolding request_of said_of
   asks = ⊎_elim (λ r. rw r (reply_long r, λ q. q.1 r)) (λ r. rw r (go (read_of message) refl (λ e. never e r) (tells message))) (which (is_in (get_or message 2 0) reply_types))
     where
-      go : (parsed : Parsed) → read_of message ≡ parsed → (is_in (get_or message 2 0) reply_types ≡ true → ⊥) → Tells message parsed → Asks message (said_by parsed message)
-      go (Read m) q n h = (h.0, ((h.1, n), rw q))
-      go (Refused Unknown) q n h = (h.0, λ r. h.1 r.0)
-      go (Refused Framing) q n h = ⊎_elim inl (λ o. inr ((o, n), rw q)) h
+      go : (parsed : Result Message Fault) → read_of message ≡ parsed → (is_in (get_or message 2 0) reply_types ≡ true → ⊥) → Tells message parsed → Asks message (said_by parsed message)
+      go (Ok m) q n h = (h.0, ((h.1, n), rw q))
+      go (Err Unknown) q n h = (h.0, λ r. h.1 r.0)
+      go (Err Framing) q n h = ⊎_elim inl (λ o. inr ((o, n), rw q)) h
 
 -- a call gives 1 exactly where the table is not well formed, and never a number of messages
 record CallNumbered (t : Table) (number : ℕ) : Type 0 where
@@ -278,15 +273,15 @@ module _ (t : Table) (ok : TableInRange t) where
   unfolding is_in
   modify_numbered bearer x value = numbered causes (modify_of t bearer x value) (modify_gives t bearer x value) refl refl (modify_numbers t ok bearer x value).is1
 
-  call_numbered : (kind : Kind) (tft : Octets) (bearer x : ℕ) → is_in (type_of kind) reply_types ≡ false → CallNumbered t (number_of (call_by kind tft t bearer x).reply.answer)
+  call_numbered : (kind : Kind) (tft : Option (List ℕ)) (bearer x : ℕ) → is_in (type_of kind) reply_types ≡ false → CallNumbered t (number_of (call_by kind tft t bearer x).reply.answer)
   unfolding is_in
   call_numbered (DedicatedRequest link) tft bearer x r =
       numbered causes (activate_dedicated_of t bearer link x (value_of tft)) (activate_dedicated_gives t bearer link x (value_of tft)) refl refl
       (activate_numbers t ok bearer link x (value_of tft)).is1
   call_numbered DedicatedAccept tft bearer x r = absurd (true≢false r)
   call_numbered (DedicatedReject why) tft bearer x r = absurd (true≢false r)
-  call_numbered ModifyRequest none bearer x r = rw (← (no_operation_lem t bearer x)) (modify_numbered bearer x (0xC0 ∷ []))
-  call_numbered ModifyRequest (those value) bearer x r = modify_numbered bearer x value
+  call_numbered ModifyRequest None bearer x r = rw (← (no_operation_lem t bearer x)) (modify_numbered bearer x (0xC0 ∷ []))
+  call_numbered ModifyRequest (Some value) bearer x r = modify_numbered bearer x value
   call_numbered ModifyAccept tft bearer x r = absurd (true≢false r)
   call_numbered (ModifyReject why) tft bearer x r = absurd (true≢false r)
   call_numbered (DeactivateRequest why) tft bearer x r =
@@ -306,7 +301,7 @@ module _ (t : Table) (ok : TableInRange t) where
   ask_numbers message = go (asked_by message) refl (asks message)
     where
       refused : (fault : Fault) → (fault_number fault ≡ 1 → ⊥) → (fault_number fault ≡ 15) ↔ ((head_octets ≤ length message) × (NoReply message → ⊥))
-          → (fault_number fault ≡ 16) ↔ ((length message < head_octets) ⊎ (NoReply message × (said_of message ≡ unread Framing)))
+          → (fault_number fault ≡ 16) ↔ ((length message < head_octets) ⊎ (NoReply message × (said_of message ≡ Err Framing)))
           → AskNumbered t message (number_of (refused_of fault t).reply.answer)
       refused fault n a b =
           subst (AskNumbered t message) (refused_number fault (well_formed t))
@@ -316,14 +311,14 @@ module _ (t : Table) (ok : TableInRange t) where
             is16 = unless_later (well_says t ok) (λ e. omega arith) b;
           })
 
-      go : (said : Said) → asked_by message ≡ said → Asks message said → AskNumbered t message (number_of (handled_by said t).outcome.reply.answer)
-      go (unread Unknown) e h =
+      go : (said : Result Fields Fault) → asked_by message ≡ said → Asks message said → AskNumbered t message (number_of (handled_by said t).outcome.reply.answer)
+      go (Err Unknown) e h =
           refused Unknown (λ z. omega arith) (λ z. h, λ z. refl)
           (λ z. absurd (omega arith), λ q. ⊎_elim (λ l. absurd (omega (arith, h.0))) (λ r. absurd (h.1 r.0)) q)
-      go (unread Framing) e h =
+      go (Err Framing) e h =
           refused Framing (λ z. omega arith)
           (λ z. absurd (omega arith), λ q. ⊎_elim (λ l. absurd (omega (arith, q.0))) (λ r. absurd (q.1 r.0)) h) (λ z. h, λ z. refl)
-      go (says f) e h =
+      go (Ok f) e h =
           let c = call_numbered f.kind f.tft f.bearer f.transaction (asked_request message f e) in
           record {
             is1 = c.is1;
@@ -331,14 +326,14 @@ module _ (t : Table) (ok : TableInRange t) where
             is16 = (λ z. absurd (c.not16 z), λ q. ⊎_elim (λ l. absurd (omega (arith, h.0))) (λ r. absurd (both_said r.1 h.1.1)) q.1);
           }
         where
-          both_said : said_of message ≡ unread Framing → said_of message ≡ says f → ⊥
+          both_said : said_of message ≡ Err Framing → said_of message ≡ Ok f → ⊥
           both_said a b = let z : ◌≡◌ {A = ℕ} 0 1 = cc in omega arith
 
 -- ---- The answer
 -- each message that is sent can be written, in the octets that an answer has
-abbrev Sendable : ℕ → Sending → Type 0
-Sendable bearer Silent = Unit {0}
-Sendable bearer (Sends kind) = (length (octets_of (reply_fields kind bearer)) ≤ answer_octets) × (writable (reply_fields kind bearer) ≡ true)
+abbrev Sendable : ℕ → Option Kind → Type 0
+Sendable bearer None = Unit {0}
+Sendable bearer (Some kind) = (length (octets_of (reply_fields kind bearer)) ≤ answer_octets) × (writable (reply_fields kind bearer) ≡ true)
 
 module _ (bearer : ℕ) (small : bearer ≤ largest_identity) where
   fits : leb bearer largest_identity ≡ true
@@ -368,10 +363,10 @@ module _ (bearer : ℕ) (small : bearer ≤ largest_identity) where
   rejecting_sendable DeactivateAccept number = tt
   rejecting_sendable (ModificationReject why) number = tt
 
-  reads_as : (s : Sending) (b : ℕ) → b ≡ bearer → Sendable bearer s → ReadsAs s b (message_of (sent_by s bearer))
+  reads_as : (s : Option Kind) (b : ℕ) → b ≡ bearer → Sendable bearer s → ReadsAs s b (message_of (sent_by s bearer))
   unfolding pad
-  reads_as Silent b e h = (refl, refl)
-  reads_as (Sends kind) b e h =
+  reads_as None b e h = (refl, refl)
+  reads_as (Some kind) b e h =
       let xs = octets_of (reply_fields kind bearer) in
       (rw (e, pad_take answer_octets xs h.0) (written_reads (reply_fields kind bearer) h.1), (pad_long answer_octets xs, pad_rests is_zero refl answer_octets xs))
 
@@ -388,10 +383,10 @@ module _ (bearer : ℕ) (small : bearer ≤ largest_identity) where
 
 -- an accept or a reject of a request is sent as a message
 abbrev IsSent : Kind → Answer → Type 0
-IsSent kind a = SendsReply a → (reply : Kind) × (sending_of kind a ≡ Sends reply)
+IsSent kind a = SendsReply a → (reply : Kind) × (sending_of kind a ≡ Some reply)
 
 -- of a kind that has a message for both
-both_sent : (kind accept : Kind) (reject : ℕ → Kind) → accepting kind ≡ Sends accept → ((number : ℕ) → rejecting kind number ≡ Sends (reject number)) → (a : Answer) → IsSent kind a
+both_sent : (kind accept : Kind) (reject : ℕ → Kind) → accepting kind ≡ Some accept → ((number : ℕ) → rejecting kind number ≡ Some (reject number)) → (a : Answer) → IsSent kind a
 both_sent kind accept reject e r (Accept b) s = (accept, e)
 both_sent kind accept reject e r (Reject b cause place) s = (reject (cause_number cause), r (cause_number cause))
 both_sent kind accept reject e r (Release default) s = absurd s
@@ -405,12 +400,12 @@ module _ (t : Table) where
   refused_bearer : (bearer : ℕ) → Answers bearer (refused_of Unknown t).reply.answer
   refused_bearer bearer = picked (λ (o : Outcome). Answers bearer o.reply.answer) (well_formed t) _ _ (λ s. absurd s) (λ s. absurd s)
 
-  call_bearer : (kind : Kind) (tft : Octets) (bearer x : ℕ) → Answers bearer (call_by kind tft t bearer x).reply.answer
+  call_bearer : (kind : Kind) (tft : Option (List ℕ)) (bearer x : ℕ) → Answers bearer (call_by kind tft t bearer x).reply.answer
   call_bearer (DedicatedRequest link) tft bearer x = activate_bearer t bearer x link (value_of tft)
   call_bearer DedicatedAccept tft bearer x = refused_bearer bearer
   call_bearer (DedicatedReject why) tft bearer x = refused_bearer bearer
-  call_bearer ModifyRequest none bearer x = accept_bearer t bearer x
-  call_bearer ModifyRequest (those value) bearer x = modify_bearer t bearer x value
+  call_bearer ModifyRequest None bearer x = accept_bearer t bearer x
+  call_bearer ModifyRequest (Some value) bearer x = modify_bearer t bearer x value
   call_bearer ModifyAccept tft bearer x = refused_bearer bearer
   call_bearer (ModifyReject why) tft bearer x = refused_bearer bearer
   call_bearer (DeactivateRequest why) tft bearer x = deactivate_bearer t bearer x
@@ -418,7 +413,7 @@ module _ (t : Table) where
   call_bearer (ModificationReject why) tft bearer x = λ s. absurd (reject_silent t x why s)
 
   -- a deactivate is never rejected; a modification reject is neither accepted nor rejected
-  call_sent : (kind : Kind) (tft : Octets) (bearer x : ℕ) → is_in (type_of kind) reply_types ≡ false → IsSent kind (call_by kind tft t bearer x).reply.answer
+  call_sent : (kind : Kind) (tft : Option (List ℕ)) (bearer x : ℕ) → is_in (type_of kind) reply_types ≡ false → IsSent kind (call_by kind tft t bearer x).reply.answer
   unfolding is_in
   call_sent (DedicatedRequest link) tft bearer x r =
       both_sent (DedicatedRequest link) DedicatedAccept DedicatedReject refl (λ number. refl) (activate_dedicated_of t bearer link x (value_of tft)).reply.answer
@@ -432,9 +427,9 @@ module _ (t : Table) where
   call_sent DeactivateAccept tft bearer x r = absurd (true≢false r)
   call_sent (ModificationReject why) tft bearer x r = λ s. absurd (reject_silent t x why s)
 
-  module _ (message : List ℕ) (f : Fields) (asked : asked_by message ≡ says f) where
+  module _ (message : List ℕ) (f : Fields) (asked : asked_by message ≡ Ok f) where
     pub answer_sent : SendsReply (handle_of t message).outcome.reply.answer
-        → (reply : Kind) × (sending_of f.kind (handle_of t message).outcome.reply.answer ≡ Sends reply)
+        → (reply : Kind) × (sending_of f.kind (handle_of t message).outcome.reply.answer ≡ Some reply)
     unfolding handle_of
     answer_sent = rw asked (call_sent f.kind f.tft f.bearer f.transaction (asked_request message f asked))
 
@@ -447,6 +442,6 @@ module _ (t : Table) where
         rw asked (answer_by f.bearer small f.kind (call_of f t).reply.answer (call_bearer f.kind f.tft f.bearer f.transaction))
 
 -- to a message that is refused nothing is sent
-pub refused_silent : (t : Table) (message : List ℕ) (fault : Fault) → asked_by message ≡ unread fault → ReadsAs Silent 0 (handle_of t message).answer
+pub refused_silent : (t : Table) (message : List ℕ) (fault : Fault) → asked_by message ≡ Err fault → ReadsAs None 0 (handle_of t message).answer
 unfolding handle_of pad
 refused_silent t message fault e = rw e (refl, refl)

@@ -1,17 +1,16 @@
--- Document 02, 5/14: "Read and write the plain messages of TS 24.301". The layout is that of V13.8.0; another edition is another table.
-use Rattle.std.specs.Prelude.{ℕ, ◌/◌, ◌%◌, Bool, List, [], ◌∷◌, eqb}
+-- "Read and write the plain messages of TS 24.301". The layout is that of V13.8.0; another edition is another table.
+use Rattle.std.specs.Prelude.{ℕ, ◌/◌, ◌%◌, Bool, List, [], ◌∷◌, eqb, Option, Some, None}
 use Rattle.laws.specs.Says.{pick}
 use Rattle.messages.specs.declared.layout.Kind.{Kind}
 use Rattle.messages.specs.declared.layout.Kind.TheVariants.{DedicatedRequest, DedicatedAccept, DedicatedReject, ModifyRequest, ModifyAccept}
 use Rattle.messages.specs.declared.layout.Kind.TheVariants.{ModifyReject, DeactivateRequest, DeactivateAccept, ModificationReject}
-use Rattle.messages.specs.declared.layout.Named.{Named}
-use Rattle.messages.specs.declared.layout.Named.TheVariants.{Known, Other}
 use Rattle.messages.specs.declared.layout.Mandatory.{Mandatory}
 use Rattle.messages.specs.declared.layout.Mandatory.TheVariants.{Nothing, Cause, Activation}
 use Rattle.messages.specs.declared.layout.Carries.{Carries}
 use Rattle.messages.specs.declared.layout.Carries.TheVariants.{Always, Maybe, Never}
+use Rattle.messages.specs.declared.listed.Listed.{Listed}
 use Rattle.messages.specs.declared.listed.Form.{Form}
-use Rattle.messages.specs.declared.listed.Form.TheVariants.{Unlisted, Half, Two, Tlv, TlvE, Template}
+use Rattle.messages.specs.declared.listed.Form.TheVariants.{Half, Two, Tlv, TlvE, Template}
 
 -- "The protocol discriminator is 2."
 abbrev pub discriminator : ℕ
@@ -22,17 +21,25 @@ abbrev pub head_octets : ℕ
 head_octets = 3
 
 -- ---- An optional element that a message lists: its identifier (of a half-octet element, the upper half of its octet), and how it is framed
-pub data Listed : Type 0 where
-  -- identifier, length, value
-  tlv : ℕ → Listed
-  -- identifier, two length octets, value
-  tlv_e : ℕ → Listed
-  -- identifier, one octet
-  two : ℕ → Listed
-  -- identifier in the upper half, value in the lower
-  half : ℕ → Listed
-  -- the TFT: identifier, length, value
-  template : ℕ → Listed
+-- identifier, length, value
+abbrev pub tlv : ℕ → Listed
+tlv identifier = record { 0 = Tlv; 1 = identifier }
+
+-- identifier, two length octets, value
+abbrev pub tlv_e : ℕ → Listed
+tlv_e identifier = record { 0 = TlvE; 1 = identifier }
+
+-- identifier, one octet
+abbrev pub two : ℕ → Listed
+two identifier = record { 0 = Two; 1 = identifier }
+
+-- identifier in the upper half, value in the lower
+abbrev pub half : ℕ → Listed
+half identifier = record { 0 = Half; 1 = identifier }
+
+-- the TFT: identifier, length, value
+abbrev pub template : ℕ → Listed
+template identifier = record { 0 = Template; 1 = identifier }
 
 -- ---- A message's row: its type, what stands between the type and the optional elements, whether it has a TFT, and what it lists
 -- (that a row with Activation, or that lists a template, has a TFT, and no other: the theorem `write_numbers`)
@@ -104,31 +111,27 @@ abbrev pub type_of : Kind → ℕ
 type_of kind = (row_of kind).type
 
 -- the one with this type
-abbrev pub named_in : List Kind → ℕ → Named
-named_in [] type = Other
-named_in (kind ∷ kinds) type = pick (eqb type (type_of kind)) (Known kind) (named_in kinds type)
+abbrev pub named_in : List Kind → ℕ → Option Kind
+named_in [] type = None
+named_in (kind ∷ kinds) type = pick (eqb type (type_of kind)) (Some kind) (named_in kinds type)
 
-unfoldable pub kind_of : ℕ → ℕ → Named
+unfoldable pub kind_of : ℕ → ℕ → Option Kind
 kind_of type x = named_in (kinds_with x) type
 
 -- ---- How the element of an identifier octet is framed
+abbrev pub begins_with : Form → ℕ → ℕ → Bool
+begins_with Half identifier x = eqb (x / 16) identifier
+begins_with _ identifier x = eqb x identifier
+
 abbrev pub is_of : Listed → ℕ → Bool
-is_of (tlv identifier) x = eqb x identifier
-is_of (tlv_e identifier) x = eqb x identifier
-is_of (two identifier) x = eqb x identifier
-is_of (half identifier) x = eqb (x / 16) identifier
-is_of (template identifier) x = eqb x identifier
+is_of l x = begins_with l.0 l.1 x
 
 abbrev pub framing : Listed → Form
-framing (tlv identifier) = Tlv
-framing (tlv_e identifier) = TlvE
-framing (two identifier) = Two
-framing (half identifier) = Half
-framing (template identifier) = Template
+framing l = l.0
 
-unfoldable pub form_in : List Listed → ℕ → Form
-form_in [] x = Unlisted
-form_in (l ∷ ls) x = pick (is_of l x) (framing l) (form_in ls x)
+unfoldable pub form_in : List Listed → ℕ → Option Form
+form_in [] x = None
+form_in (l ∷ ls) x = pick (is_of l x) (Some (framing l)) (form_in ls x)
 
 abbrev pub optional : Kind → List Listed
 optional kind = (row_of kind).optional

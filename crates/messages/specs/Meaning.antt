@@ -1,23 +1,21 @@
 -- What the theorems on messages say, where that is no computation.
-use Rattle.std.specs.Prelude.{◌≡◌, ◌⊎◌, ◌↔◌, Bool, true, ℕ, ◌+◌, ◌*◌, ◌/◌, ◌%◌, ◌<◌, ◌≤◌, eqb, length, take, drop, get_or}
+use Rattle.std.specs.Prelude.{◌≡◌, ◌⊎◌, ◌↔◌, Bool, true, ℕ, ◌+◌, ◌*◌, ◌/◌, ◌%◌, ◌<◌, ◌≤◌, eqb, length, take, drop, get_or, Option, Some, None, Ok}
 use mathlib.Core.List.{List, [], ◌∷◌, ◌++◌, flatten}
 use Rattle.laws.specs.Lists.{All, every, is_in}
 use Rattle.element.specs.Meaning.{Octet}
 use Rattle.table.specs.declared.bearer.Table.{Table}
 use Rattle.table.specs.WellFormed.{WellFormed}
 use Rattle.calls.specs.declared.reply.Answer.{Answer}
-use Rattle.calls.specs.declared.reply.Answer.TheVariants.{Accept, Reject, Release, Reattach, Started, Closed, Synchronised, Refused}
+use Rattle.calls.specs.declared.reply.Answer.TheVariants.{Accept, Reject}
 use Rattle.calls.specs.Checks.{Placed, Unplaced}
 use Rattle.messages.specs.declared.layout.Kind.{Kind}
 use Rattle.messages.specs.declared.layout.Mandatory.{Mandatory}
 use Rattle.messages.specs.declared.layout.Mandatory.TheVariants.{Nothing, Cause, Activation}
 use Rattle.messages.specs.declared.listed.Form.{Form}
-use Rattle.messages.specs.declared.listed.Form.TheVariants.{Unlisted, Half, Two, Tlv, TlvE, Template}
-use Rattle.messages.specs.declared.handle.Sending.{Sending}
-use Rattle.messages.specs.declared.handle.Sending.TheVariants.{Silent, Sends}
+use Rattle.messages.specs.declared.listed.Form.TheVariants.{Half, Two, Tlv, TlvE, Template}
 use Rattle.messages.specs.declared.handle.AnswerMessage.{AnswerMessage}
 use Rattle.messages.specs.Layout.{discriminator, head_octets, tft_identifier, row_of, carried, type_of, form_in, optional}
-use Rattle.messages.specs.Read.{Octets, none, those, Fields, says, said_of}
+use Rattle.messages.specs.Read.{Fields, said_of}
 use Rattle.messages.specs.Write.{octets_of}
 use Rattle.messages.specs.Handle.{sending_of}
 
@@ -31,13 +29,12 @@ Ours message = (get_or message 0 0 % 16 ≡ discriminator) × (is_in (get_or mes
 
 pub record ReadNumbered (message : List ℕ) (number : ℕ) : Type 0 where
   pub is15 : (number ≡ 15) ↔ ((head_octets ≤ length message) × (Ours message → ⊥))
-  pub is0 : (number ≡ 0) ↔ ((f : Fields) × (said_of message ≡ says f))
+  pub is0 : (number ≡ 0) ↔ ((f : Fields) × (said_of message ≡ Ok f))
   pub given : (number ≡ 0) ⊎ ((number ≡ 15) ⊎ (number ≡ 16))
 
 -- ---- An element that is skipped: the theorem `skipped_changes_nothing`
 -- the octets after an element's identifier are all of it, whatever they hold
 abbrev pub Whole : Form → List ℕ → Type 0
-Whole Unlisted xs = ⊥
 Whole Half xs = xs ≡ []
 Whole Two xs = (x : ℕ) × (xs ≡ x ∷ [])
 Whole Tlv xs = (value : List ℕ) × (xs ≡ length value ∷ value)
@@ -48,14 +45,16 @@ Whole Template xs = ⊥
 pub record Skipped (kind : Kind) (e : List ℕ) : Type 0 where
   pub identifier : ℕ
   pub rest : List ℕ
+  pub form : Form
   pub is : e ≡ identifier ∷ rest
-  pub whole : Whole (form_in (optional kind) identifier) rest
+  pub listed : form_in (optional kind) identifier ≡ Some form
+  pub whole : Whole form rest
 
 -- ---- Each number of the writer: the theorem `write_numbers`
 -- every number in its type's range
-abbrev pub OctetsInRange : Octets → Type 0
-OctetsInRange none = Unit {0}
-OctetsInRange (those value) = All Octet value
+abbrev pub OctetsInRange : Option (List ℕ) → Type 0
+OctetsInRange None = Unit {0}
+OctetsInRange (Some value) = All Octet value
 
 pub record FieldsInRange (f : Fields) : Type 0 where
   pub bearer : f.bearer < 256
@@ -67,7 +66,7 @@ pub record FieldsInRange (f : Fields) : Type 0 where
 pub record Readable (f : Fields) : Type 0 where
   pub message : List ℕ
   pub octets : All Octet message
-  pub reads : said_of message ≡ says f
+  pub reads : said_of message ≡ Ok f
 
 pub record WriteNumbered (f : Fields) (buffer : List ℕ) (number : ℕ) : Type 0 where
   pub is15 : (number ≡ 15) ↔ (Readable f → ⊥)
@@ -82,53 +81,48 @@ sent m = take m.count m.octets
 abbrev pub is_zero : ℕ → Bool
 is_zero x = eqb x 0
 
-abbrev pub ReadsAs : Sending → ℕ → AnswerMessage → Type 0
-ReadsAs Silent bearer m = (m.count ≡ 0) × (m.octets ≡ 0 ∷ 0 ∷ 0 ∷ 0 ∷ [])
-ReadsAs (Sends kind) bearer m =
-    (said_of (sent m) ≡ says (record { kind = kind; bearer = bearer; transaction = 0; tft = none }))
+abbrev pub ReadsAs : Option Kind → ℕ → AnswerMessage → Type 0
+ReadsAs None bearer m = (m.count ≡ 0) × (m.octets ≡ 0 ∷ 0 ∷ 0 ∷ 0 ∷ [])
+ReadsAs (Some kind) bearer m =
+    (said_of (sent m) ≡ Ok (record { kind = kind; bearer = bearer; transaction = 0; tft = None }))
     × ((length m.octets ≡ 4) × (every is_zero (drop m.count m.octets) ≡ true))
 
 -- the identity of an accept or a reject
 abbrev pub bearer_of : Answer → ℕ
 bearer_of (Accept bearer) = bearer
 bearer_of (Reject bearer cause place) = bearer
-bearer_of (Release default) = 0
-bearer_of Reattach = 0
-bearer_of (Started transaction) = 0
-bearer_of (Closed transaction) = 0
-bearer_of Synchronised = 0
-bearer_of (Refused refusal) = 0
+bearer_of _ = 0
 
 abbrev pub AnswerReads : Kind → Answer → AnswerMessage → Type 0
 AnswerReads kind a m = ReadsAs (sending_of kind a) (bearer_of a) m
 
--- ---- Document 02, 6/14: "counted in the element's value": the theorem `message_placed`
+-- ---- "Counted in the element's value": the theorem `message_placed`
 -- a reject's place is the reader's for the TFT's octets; a message without a TFT has none
-abbrev pub PlacedIn : Octets → Answer → Type 0
-PlacedIn none a = Unplaced a
-PlacedIn (those value) a = Placed value a
+abbrev pub PlacedIn : Option (List ℕ) → Answer → Type 0
+PlacedIn None a = Unplaced a
+PlacedIn (Some value) a = Placed value a
 
 -- ---- The octets of a message, part after part, with no word of how they are walked: the theorem `reads_exactly`
 -- what stands between the type and the optional elements, by the octet that it carries and the TFT that it holds
-abbrev pub MandatoryPart : Mandatory → ℕ → Octets → List ℕ → Type 0
-MandatoryPart Nothing x tft xs = (tft ≡ none) × (xs ≡ [])
-MandatoryPart Cause x tft xs = (tft ≡ none) × (xs ≡ x ∷ [])
+abbrev pub MandatoryPart : Mandatory → ℕ → Option (List ℕ) → List ℕ → Type 0
+MandatoryPart Nothing x tft xs = (tft ≡ None) × (xs ≡ [])
+MandatoryPart Cause x tft xs = (tft ≡ None) × (xs ≡ x ∷ [])
 MandatoryPart Activation x tft xs =
-    (octet : ℕ) × ((qos : List ℕ) × ((value : List ℕ) × (((octet % 16 ≡ x) × (tft ≡ those value)) × (xs ≡ octet ∷ length qos ∷ qos ++ (length value ∷ value)))))
+    (octet : ℕ) × ((qos : List ℕ) × ((value : List ℕ) × (((octet % 16 ≡ x) × (tft ≡ Some value)) × (xs ≡ octet ∷ length qos ∷ qos ++ (length value ∷ value)))))
 
 -- optional elements one after the other, in any order: each is skipped, or it is the TFT, where there was none before it
-abbrev pub OptionalPart : Kind → Octets → Octets → List (List ℕ) → Type 0
+abbrev pub OptionalPart : Kind → Option (List ℕ) → Option (List ℕ) → List (List ℕ) → Type 0
 OptionalPart kind before tft [] = before ≡ tft
 OptionalPart kind before tft (e ∷ es) =
     (Skipped kind e × OptionalPart kind before tft es)
-    ⊎ (((before ≡ none) × (form_in (optional kind) tft_identifier ≡ Template))
-    × ((value : List ℕ) × ((e ≡ tft_identifier ∷ length value ∷ value) × OptionalPart kind (those value) tft es)))
+    ⊎ (((before ≡ None) × (form_in (optional kind) tft_identifier ≡ Some Template))
+    × ((value : List ℕ) × ((e ≡ tft_identifier ∷ length value ∷ value) × OptionalPart kind (Some value) tft es)))
 
 pub record Composed (f : Fields) (message : List ℕ) : Type 0 where
   pub first : ℕ
   pub mandatory : List ℕ
   pub elements : List (List ℕ)
-  pub before : Octets
+  pub before : Option (List ℕ)
   pub is : message ≡ first ∷ f.transaction ∷ type_of f.kind ∷ mandatory ++ flatten elements
   pub bearer : first / 16 ≡ f.bearer
   pub ours : first % 16 ≡ discriminator

@@ -1,33 +1,31 @@
 // A message handled on a table.
-ghost use Rattle.std.specs.Prelude.{◌≡◌, [], ◌≤◌, ◌+◌, length};
+ghost use Rattle.std.specs.Prelude.{◌≡◌, [], ◌≤◌, Ok, option_copied};
 ghost use Rattle.laws.specs.Lists.{is_in};
-ghost use Rattle.messages.specs.declared.layout.Parsed.TheVariants.{Read};
-ghost use Rattle.messages.specs.Read.{said_by};
-ghost use Rattle.messages.specs.Write.{largest_identity, value_of, octets_of};
-ghost use Rattle.messages.specs.Handle.{reply_types, request_of, accept_of, modify_by, refusal_of, refused_of, call_by, accepting, rejecting, sending_of};
-ghost use Rattle.messages.specs.Handle.{reply_fields, sent_by, message_of, handled_by, handle_of};
-ghost use Rattle.messages.specs.Inner.Walk.{offset_of, octets_in, octets_given, Inside};
+ghost use Rattle.messages.specs.Read.{octets_at, said_by};
+ghost use Rattle.messages.specs.Write.{largest_identity, octets_of};
+ghost use Rattle.messages.specs.Handle.{reply_types, request_of, refusal_of, refused_of, call_by, accepting, rejecting, sending_of};
+ghost use Rattle.messages.specs.Handle.{reply_fields, sent_by, message_of, handled, handled_by, handle_of};
+ghost use Rattle.messages.specs.Inner.Walk.{Inside};
 
 use crate::layout::{
-    DEACTIVATE_ACCEPT, DEDICATED_ACCEPT, DEDICATED_REJECT, Fault, HEAD_OCTETS, Kind, MODIFY_ACCEPT,
-    MODIFY_REJECT, Message, Parsed, Tft, shape_of,
+    DEACTIVATE_ACCEPT, DEDICATED_ACCEPT, DEDICATED_REJECT, Fault, Kind, MODIFY_ACCEPT,
+    MODIFY_REJECT, Message, Part,
 };
 use crate::read::read_message;
-use crate::write::front_of;
-use calls::activate::activate_dedicated;
-use calls::deactivate::{deactivate, reject};
-use calls::modify::modify;
-use calls::reply::{answer_with, number};
-use calls::{Answer, Outcome, Refusal};
+use crate::write::{Fields, front_of};
+use calls::activate::activate_dedicated_on;
+use calls::deactivate::{deactivate_on, reject_on};
+use calls::modify::modify_on;
+use calls::reply::number;
+use calls::{Answer, Outcome, Refusal, Reply};
 use table::Table;
-use table::well_formed::well_formed;
 
 const ANSWER_OCTETS: usize = 4;
 
 // The value of an element with the operation "no operation".
 const NO_OPERATION: [u8; 1] = [0xC0];
 
-// The octets of what is sent, zero beyond the count; none where nothing is.
+// The octets of what is sent, zero beyond the count; none where nothing is. It is handed out in fixed memory: no layer has a heap.
 #[derive(Clone, Copy)]
 pub struct AnswerMessage {
     pub count: u8,
@@ -40,152 +38,136 @@ pub struct Handled {
     pub answer: AnswerMessage,
 }
 
+// Of a message that is handled on a lent table.
 #[derive(Clone, Copy)]
-pub enum Sending {
-    Silent,
-    Sends(Kind),
+pub struct Answered {
+    pub reply: Reply,
+    pub answer: AnswerMessage,
 }
 
 #[tactic(auto, unfolding(laws::specs::Lists::is_in))]
 fn is_reply(octet: u8) -> bool
     ensures { result ≡ is_in octet reply_types }
 {
-    (octet == DEDICATED_ACCEPT)
-        | (octet == DEDICATED_REJECT)
-        | (octet == MODIFY_ACCEPT)
-        | (octet == MODIFY_REJECT)
-        | (octet == DEACTIVATE_ACCEPT)
+    matches!(
+        octet,
+        DEDICATED_ACCEPT | DEDICATED_REJECT | MODIFY_ACCEPT | MODIFY_REJECT | DEACTIVATE_ACCEPT
+    )
 }
 
 #[tactic(auto, using(crate::proofs::Turns::request_read, crate::proofs::Turns::request_reply, crate::proofs::Turns::request_short))]
-fn read_request(message: &[u8]) -> Parsed
+fn read_request(message: &[u8]) -> Result<Message, Fault>
     ensures { result ≡ request_of message.now }
 {
-    if message.len() < HEAD_OCTETS {
-        return Parsed::Refused(Fault::Framing);
-    }
-    if is_reply(message[2]) {
-        return Parsed::Refused(Fault::Unknown);
+    let [_, _, octet, ..] = message else {
+        return Err(Fault::Framing);
+    };
+    if is_reply(*octet) {
+        return Err(Fault::Unknown);
     }
     read_message(message)
 }
 
-fn refusal_of(fault: Fault) -> Refusal
-    ensures { result ≡ refusal_of fault }
-{
-    match fault {
-        Fault::Unknown => Refusal::UnknownMessage,
-        Fault::Framing => Refusal::MessageFraming,
+impl From<Fault> for Refusal {
+    ghost from_gives = { λ fault refusal. refusal ≡ refusal_of fault };
+
+    fn from(fault: Fault) -> Refusal {
+        match fault {
+            Fault::Unknown => Refusal::UnknownMessage,
+            Fault::Framing => Refusal::MessageFraming,
+        }
     }
 }
 
-fn refuse(t: Table, fault: Fault) -> Outcome
-    ensures { result ≡ refused_of fault t }
+#[tactic(auto, unfolding(crate::specs::Handle::refused_of))]
+fn refuse(table: &mut Table, fault: Fault) -> Reply
+    ensures { record { table = table.new; reply = result } ≡ refused_of fault table.old }
 {
-    if !well_formed(t) {
-        return answer_with(t, Answer::Refused(Refusal::NotWellFormed));
+    if !table.well_formed() {
+        return Reply::refuse(Refusal::NotWellFormed);
     }
-    answer_with(t, Answer::Refused(refusal_of(fault)))
+    Reply::refuse(Refusal::from(fault))
 }
 
-// An element without operation changes nothing, after steps 1 to 3.
+// The TFT's value, where there is a TFT.
+fn value_in(message: &[u8], tft: Option<Part>) -> Option<&[u8]>
+    requires { Inside tft message.now }
+    ensures { option_copied result ≡ octets_at message.now tft }
+{
+    let part = tft?;
+    Some(&message[part.from..part.from + part.octets])
+}
+
+// A modify request without a TFT is one without operation: it changes nothing but a closed transaction.
 #[tactic(auto, using(crate::proofs::Accepting::no_operation_lem))]
-fn accept(t: Table, bearer: u8, transaction: u8) -> Outcome
-    ensures { result ≡ accept_of t bearer transaction }
+fn call(table: &mut Table, request: Message, tft: Option<&[u8]>) -> Reply
+    ensures { record { table = table.new; reply = result } ≡ call_by request.kind (option_copied tft.entry) table.old request.bearer request.transaction }
 {
-    modify(t, bearer, transaction, &NO_OPERATION[..])
-}
-
-fn offset_of(tft: Tft) -> usize
-    ensures { result ≡ offset_of tft }
-{
-    match tft {
-        Tft::Absent => 0,
-        Tft::At(from, _) => from,
-    }
-}
-
-fn octets_in(tft: Tft) -> usize
-    ensures { result ≡ octets_in tft }
-{
-    match tft {
-        Tft::Absent => 0,
-        Tft::At(_, octets) => octets,
-    }
-}
-
-fn modify_by(t: Table, bearer: u8, transaction: u8, tft: Tft, value: &[u8]) -> Outcome
-    ensures { result ≡ modify_by (octets_given tft value.now) t bearer transaction }
-{
-    match tft {
-        Tft::Absent => accept(t, bearer, transaction),
-        Tft::At(_, _) => modify(t, bearer, transaction, value),
-    }
-}
-
-fn call(t: Table, m: Message, value: &[u8]) -> Outcome
-    requires { value_of (octets_given m.tft value.now) ≡ value.now }
-    ensures { result ≡ call_by m.kind (octets_given m.tft value.now) t m.bearer m.transaction }
-{
-    let kind = m.kind;
-    let tft = m.tft;
+    let Message {
+        kind,
+        bearer,
+        transaction,
+        ..
+    } = request;
     match kind {
-        Kind::DedicatedRequest(link) => activate_dedicated(t, m.bearer, link, m.transaction, value),
-        Kind::DedicatedAccept => refuse(t, Fault::Unknown),
-        Kind::DedicatedReject(_) => refuse(t, Fault::Unknown),
-        Kind::ModifyRequest => modify_by(t, m.bearer, m.transaction, tft, value),
-        Kind::ModifyAccept => refuse(t, Fault::Unknown),
-        Kind::ModifyReject(_) => refuse(t, Fault::Unknown),
-        Kind::DeactivateRequest(_) => deactivate(t, m.bearer, m.transaction),
-        Kind::DeactivateAccept => refuse(t, Fault::Unknown),
-        Kind::ModificationReject(cause) => reject(t, m.transaction, cause),
+        Kind::DedicatedRequest(link) => {
+            activate_dedicated_on(table, bearer, link, transaction, tft.unwrap_or(&[]))
+        }
+        Kind::ModifyRequest => modify_on(table, bearer, transaction, tft.unwrap_or(&NO_OPERATION)),
+        Kind::DeactivateRequest(_) => deactivate_on(table, bearer, transaction),
+        Kind::ModificationReject(cause) => reject_on(table, transaction, cause),
+        Kind::DedicatedAccept
+        | Kind::DedicatedReject(_)
+        | Kind::ModifyAccept
+        | Kind::ModifyReject(_)
+        | Kind::DeactivateAccept => refuse(table, Fault::Unknown),
     }
 }
 
-fn accepting(kind: Kind) -> Sending
+fn accepting(kind: Kind) -> Option<Kind>
     ensures { result ≡ accepting kind }
 {
     match kind {
-        Kind::DedicatedRequest(_) => Sending::Sends(Kind::DedicatedAccept),
-        Kind::DedicatedAccept => Sending::Silent,
-        Kind::DedicatedReject(_) => Sending::Silent,
-        Kind::ModifyRequest => Sending::Sends(Kind::ModifyAccept),
-        Kind::ModifyAccept => Sending::Silent,
-        Kind::ModifyReject(_) => Sending::Silent,
-        Kind::DeactivateRequest(_) => Sending::Sends(Kind::DeactivateAccept),
-        Kind::DeactivateAccept => Sending::Silent,
-        Kind::ModificationReject(_) => Sending::Silent,
+        Kind::DedicatedRequest(_) => Some(Kind::DedicatedAccept),
+        Kind::ModifyRequest => Some(Kind::ModifyAccept),
+        Kind::DeactivateRequest(_) => Some(Kind::DeactivateAccept),
+        Kind::DedicatedAccept
+        | Kind::DedicatedReject(_)
+        | Kind::ModifyAccept
+        | Kind::ModifyReject(_)
+        | Kind::DeactivateAccept
+        | Kind::ModificationReject(_) => None,
     }
 }
 
-fn rejecting(kind: Kind, cause: u8) -> Sending
+fn rejecting(kind: Kind, cause: u8) -> Option<Kind>
     ensures { result ≡ rejecting kind cause }
 {
     match kind {
-        Kind::DedicatedRequest(_) => Sending::Sends(Kind::DedicatedReject(cause)),
-        Kind::DedicatedAccept => Sending::Silent,
-        Kind::DedicatedReject(_) => Sending::Silent,
-        Kind::ModifyRequest => Sending::Sends(Kind::ModifyReject(cause)),
-        Kind::ModifyAccept => Sending::Silent,
-        Kind::ModifyReject(_) => Sending::Silent,
-        Kind::DeactivateRequest(_) => Sending::Silent,
-        Kind::DeactivateAccept => Sending::Silent,
-        Kind::ModificationReject(_) => Sending::Silent,
+        Kind::DedicatedRequest(_) => Some(Kind::DedicatedReject(cause)),
+        Kind::ModifyRequest => Some(Kind::ModifyReject(cause)),
+        Kind::DedicatedAccept
+        | Kind::DedicatedReject(_)
+        | Kind::ModifyAccept
+        | Kind::ModifyReject(_)
+        | Kind::DeactivateRequest(_)
+        | Kind::DeactivateAccept
+        | Kind::ModificationReject(_) => None,
     }
 }
 
-fn sending_of(kind: Kind, answer: Answer) -> Sending
+fn sending_of(kind: Kind, answer: Answer) -> Option<Kind>
     ensures { result ≡ sending_of kind answer }
 {
     match answer {
         Answer::Accept(_) => accepting(kind),
-        Answer::Reject(_, _, _) => rejecting(kind, number(answer)),
-        Answer::Release(_) => Sending::Silent,
-        Answer::Reattach => Sending::Silent,
-        Answer::Started(_) => Sending::Silent,
-        Answer::Closed(_) => Sending::Silent,
-        Answer::Synchronised => Sending::Silent,
-        Answer::Refused(_) => Sending::Silent,
+        Answer::Reject(..) => rejecting(kind, number(answer)),
+        Answer::Release(_)
+        | Answer::Reattach
+        | Answer::Started(_)
+        | Answer::Closed(_)
+        | Answer::Synchronised
+        | Answer::Refused(_) => None,
     }
 }
 
@@ -205,11 +187,16 @@ fn reply_message(kind: Kind, bearer: u8) -> AnswerMessage
     requires { bearer ≤ largest_identity }
     ensures { result ≡ message_of (octets_of (reply_fields kind bearer)) }
 {
-    let front = front_of(shape_of(kind), bearer, 0, false, 0);
-    let octets = front.octets;
+    let front = front_of(Fields {
+        kind,
+        bearer,
+        transaction: 0,
+        tft: None,
+    });
+    let [first, second, third, fourth, ..] = front.octets;
     AnswerMessage {
         count: front.count as u8,
-        octets: [octets[0], octets[1], octets[2], octets[3]],
+        octets: [first, second, third, fourth],
     }
 }
 
@@ -217,42 +204,42 @@ fn answer_to(kind: Kind, bearer: u8, answer: Answer) -> AnswerMessage
     requires { bearer ≤ largest_identity }
     ensures { result ≡ message_of (sent_by (sending_of kind answer) bearer) }
 {
-    let sending = sending_of(kind, answer);
-    match sending {
-        Sending::Silent => nothing_sent(),
-        Sending::Sends(reply) => reply_message(reply, bearer),
+    match sending_of(kind, answer) {
+        Some(reply) => reply_message(reply, bearer),
+        None => nothing_sent(),
     }
 }
 
-#[tactic(auto, using(crate::proofs::Handling::part_is, crate::proofs::Handling::part_value, crate::proofs::Handling::respond_is))]
-fn respond(t: Table, m: Message, message: &[u8]) -> Handled
-    requires { (Inside m.tft message.now) × (m.bearer ≤ largest_identity) }
-    ensures { result ≡ handled_by (said_by (Read m) message.now) t }
+fn respond(table: &mut Table, request: Message, message: &[u8]) -> Answered
+    requires { (Inside request.tft message.now) × (request.bearer ≤ largest_identity) }
+    ensures { handled table.new result ≡ handled_by (said_by (Ok request) message.now) table.old }
 {
-    let tft = m.tft;
-    let from = offset_of(tft);
-    let to = from + octets_in(tft);
-    let outcome = call(t, m, &message[from..to]);
-    let reply = outcome.reply;
-    let kind = m.kind;
-    let said = reply.answer;
-    let answer = answer_to(kind, m.bearer, said);
-    Handled { outcome, answer }
+    let reply = call(table, request, value_in(message, request.tft));
+    let answer = answer_to(request.kind, request.bearer, reply.answer);
+    Answered { reply, answer }
 }
 
-#[tactic(auto, using(crate::proofs::Handling::handled_read, crate::proofs::Handling::handled_refused, crate::proofs::Inside::parts, crate::proofs::Handling::request_reads, crate::proofs::Inside::tft_inside))]
-pub fn handle(t: Table, message: &[u8]) -> Handled
-    ensures { result ≡ handle_of t message.now }
+// On a table that is lent.
+#[tactic(auto, using(crate::proofs::Handling::handled_read, crate::proofs::Handling::handled_refused))]
+pub fn handle_on(table: &mut Table, message: &[u8]) -> Answered
+    ensures { handled table.new result ≡ handle_of table.old message.now }
 {
-    let request = read_request(message);
-    match request {
-        Parsed::Refused(fault) => {
-            let outcome = refuse(t, fault);
-            Handled {
-                outcome,
-                answer: nothing_sent(),
-            }
-        }
-        Parsed::Read(m) => respond(t, m, message),
+    match read_request(message) {
+        Ok(request) => respond(table, request, message),
+        Err(fault) => Answered {
+            reply: refuse(table, fault),
+            answer: nothing_sent(),
+        },
+    }
+}
+
+pub fn handle(table: Table, message: &[u8]) -> Handled
+    ensures { result ≡ handle_of table message.now }
+{
+    let mut table = table;
+    let Answered { reply, answer } = handle_on(&mut table, message);
+    Handled {
+        outcome: Outcome { table, reply },
+        answer,
     }
 }

@@ -1,12 +1,9 @@
 // The messages, and the octets that say which one it is.
 ghost use Rattle.std.specs.Prelude.{◌≡◌};
 ghost use Rattle.messages.specs.Layout.{row_of, carried, kind_of};
-ghost use Rattle.messages.specs.Read.{parsed_number};
+ghost use Rattle.messages.specs.Read.{fault_number, parsed_number};
 
 pub(crate) const DISCRIMINATOR: u8 = 2;
-
-// Octets 1 to 3: bearer and discriminator, transaction, type.
-pub(crate) const HEAD_OCTETS: usize = 3;
 
 const DEDICATED_REQUEST: u8 = 0xC5;
 
@@ -30,7 +27,7 @@ const MODIFICATION_REJECT: u8 = 0xD7;
 pub(crate) const TFT_IDENTIFIER: u8 = 0x36;
 
 // With the linked identity, or the cause, where it has one.
-#[derive(Clone, Copy)]
+#[derive(Clone, Copy, PartialEq, Eq)]
 pub enum Kind {
     DedicatedRequest(u8),
     DedicatedAccept,
@@ -43,32 +40,25 @@ pub enum Kind {
     ModificationReject(u8),
 }
 
-// Where the TFT's octets stand in the message: their offset, and how many they are.
-#[derive(Clone, Copy)]
-pub enum Tft {
-    Absent,
-    At(usize, usize),
+// Where the TFT's octets stand in the message, and how many they are.
+#[derive(Clone, Copy, PartialEq, Eq)]
+pub struct Part {
+    pub from: usize,
+    pub octets: usize,
 }
 
-#[derive(Clone, Copy)]
+#[derive(Clone, Copy, PartialEq, Eq)]
 pub struct Message {
     pub kind: Kind,
     pub bearer: u8,
     pub transaction: u8,
-    pub tft: Tft,
+    pub tft: Option<Part>,
 }
 
-// 15 and 16 of document 02.
-#[derive(Clone, Copy)]
+#[derive(Clone, Copy, PartialEq, Eq)]
 pub enum Fault {
     Unknown,
     Framing,
-}
-
-#[derive(Clone, Copy)]
-pub enum Parsed {
-    Read(Message),
-    Refused(Fault),
 }
 
 // What stands between the type and the optional elements: one octet of cause; or one octet with the linked identity, QoS and TFT.
@@ -87,97 +77,93 @@ pub enum Carries {
     Never,
 }
 
-// A kind's row, and the linked identity or the cause, 0 where it has neither.
 #[derive(Clone, Copy)]
-pub struct Shape {
+pub struct Row {
     pub octet: u8,
     pub mandatory: Mandatory,
     pub tft: Carries,
-    pub carried: u8,
 }
 
-// What octet 3 names.
-#[derive(Clone, Copy)]
-pub enum Named {
-    Known(Kind),
-    Other,
+impl Fault {
+    pub fn number(self) -> u8
+        ensures { result ≡ fault_number self }
+    {
+        match self {
+            Fault::Unknown => 15,
+            Fault::Framing => 16,
+        }
+    }
 }
 
 // The number of a refusal; 0 where the message was read.
-pub fn parsed_number(parsed: Parsed) -> u8
+pub fn parsed_number(parsed: Result<Message, Fault>) -> u8
     ensures { result ≡ parsed_number parsed }
 {
     match parsed {
-        Parsed::Read(_) => 0,
-        Parsed::Refused(fault) => match fault {
-            Fault::Unknown => 15,
-            Fault::Framing => 16,
-        },
+        Ok(_) => 0,
+        Err(fault) => fault.number(),
     }
 }
 
 // `first` is the octet after the type: it holds the linked identity, or is the cause.
 #[tactic(auto, unfolding(crate::specs::Layout::kind_of))]
-pub(crate) fn kind_of(octet: u8, first: u8) -> Named
+pub(crate) fn kind_of(octet: u8, first: u8) -> Option<Kind>
     ensures { result ≡ kind_of octet first }
 {
     match octet {
-        DEDICATED_REQUEST => Named::Known(Kind::DedicatedRequest(first % 16)),
-        DEDICATED_ACCEPT => Named::Known(Kind::DedicatedAccept),
-        DEDICATED_REJECT => Named::Known(Kind::DedicatedReject(first)),
-        MODIFY_REQUEST => Named::Known(Kind::ModifyRequest),
-        MODIFY_ACCEPT => Named::Known(Kind::ModifyAccept),
-        MODIFY_REJECT => Named::Known(Kind::ModifyReject(first)),
-        DEACTIVATE_REQUEST => Named::Known(Kind::DeactivateRequest(first)),
-        DEACTIVATE_ACCEPT => Named::Known(Kind::DeactivateAccept),
-        MODIFICATION_REJECT => Named::Known(Kind::ModificationReject(first)),
-        _ => Named::Other,
+        DEDICATED_REQUEST => Some(Kind::DedicatedRequest(first % 16)),
+        DEDICATED_ACCEPT => Some(Kind::DedicatedAccept),
+        DEDICATED_REJECT => Some(Kind::DedicatedReject(first)),
+        MODIFY_REQUEST => Some(Kind::ModifyRequest),
+        MODIFY_ACCEPT => Some(Kind::ModifyAccept),
+        MODIFY_REJECT => Some(Kind::ModifyReject(first)),
+        DEACTIVATE_REQUEST => Some(Kind::DeactivateRequest(first)),
+        DEACTIVATE_ACCEPT => Some(Kind::DeactivateAccept),
+        MODIFICATION_REJECT => Some(Kind::ModificationReject(first)),
+        _ => None,
     }
 }
 
-fn shaped(octet: u8, mandatory: Mandatory, tft: Carries, carried: u8) -> Shape
-    ensures { result ≡ record { octet = octet; mandatory = mandatory; tft = tft; carried = carried } }
-{
-    Shape {
-        octet,
-        mandatory,
-        tft,
-        carried,
+impl Kind {
+    pub(crate) fn row(self) -> Row
+        ensures { (result.octet ≡ (row_of self).type) × (result.mandatory ≡ (row_of self).mandatory) × (result.tft ≡ (row_of self).tft) }
+    {
+        let (octet, mandatory, tft) = match self {
+            Kind::DedicatedRequest(_) => (
+                DEDICATED_REQUEST,
+                Mandatory::Activation,
+                Carries::Always,
+            ),
+            Kind::DedicatedAccept => (DEDICATED_ACCEPT, Mandatory::Nothing, Carries::Never),
+            Kind::DedicatedReject(_) => (DEDICATED_REJECT, Mandatory::Cause, Carries::Never),
+            Kind::ModifyRequest => (MODIFY_REQUEST, Mandatory::Nothing, Carries::Maybe),
+            Kind::ModifyAccept => (MODIFY_ACCEPT, Mandatory::Nothing, Carries::Never),
+            Kind::ModifyReject(_) => (MODIFY_REJECT, Mandatory::Cause, Carries::Never),
+            Kind::DeactivateRequest(_) => (DEACTIVATE_REQUEST, Mandatory::Cause, Carries::Never),
+            Kind::DeactivateAccept => (DEACTIVATE_ACCEPT, Mandatory::Nothing, Carries::Never),
+            Kind::ModificationReject(_) => (MODIFICATION_REJECT, Mandatory::Cause, Carries::Never),
+        };
+        Row {
+            octet,
+            mandatory,
+            tft,
+        }
     }
-}
 
-pub(crate) fn shape_of(kind: Kind) -> Shape
-    ensures { (result.octet ≡ (row_of kind).type) × (result.mandatory ≡ (row_of kind).mandatory) × (result.tft ≡ (row_of kind).tft) × (result.carried ≡ carried kind) }
-{
-    match kind {
-        Kind::DedicatedRequest(link) => shaped(
-            DEDICATED_REQUEST,
-            Mandatory::Activation,
-            Carries::Always,
-            link,
-        ),
-        Kind::DedicatedAccept => shaped(DEDICATED_ACCEPT, Mandatory::Nothing, Carries::Never, 0),
-        Kind::DedicatedReject(cause) => shaped(
-            DEDICATED_REJECT,
-            Mandatory::Cause,
-            Carries::Never,
-            cause,
-        ),
-        Kind::ModifyRequest => shaped(MODIFY_REQUEST, Mandatory::Nothing, Carries::Maybe, 0),
-        Kind::ModifyAccept => shaped(MODIFY_ACCEPT, Mandatory::Nothing, Carries::Never, 0),
-        Kind::ModifyReject(cause) => shaped(MODIFY_REJECT, Mandatory::Cause, Carries::Never, cause),
-        Kind::DeactivateRequest(cause) => shaped(
-            DEACTIVATE_REQUEST,
-            Mandatory::Cause,
-            Carries::Never,
-            cause,
-        ),
-        Kind::DeactivateAccept => shaped(DEACTIVATE_ACCEPT, Mandatory::Nothing, Carries::Never, 0),
-        Kind::ModificationReject(cause) => shaped(
-            MODIFICATION_REJECT,
-            Mandatory::Cause,
-            Carries::Never,
-            cause,
-        ),
+    // The linked identity or the cause; 0 where it has neither.
+    pub(crate) fn carried(self) -> u8
+        ensures { result ≡ carried self }
+    {
+        match self {
+            Kind::DedicatedRequest(link) => link,
+            Kind::DedicatedReject(cause)
+            | Kind::ModifyReject(cause)
+            | Kind::DeactivateRequest(cause)
+            | Kind::ModificationReject(cause) => cause,
+            Kind::DedicatedAccept
+            | Kind::ModifyRequest
+            | Kind::ModifyAccept
+            | Kind::DeactivateAccept => 0,
+        }
     }
 }

@@ -1,9 +1,10 @@
--- Document 02's example of a status and what goes beyond it, as a single claim about the written definitions, computed.
+-- The example that comes with the request for a status and what goes beyond it, as a single claim about the written definitions, computed.
 -- Assumes nothing.
 use mathlib.Core.Path.{◌≡◌, refl}
 use mathlib.Core.List.{List, [], ◌∷◌}
 use Prim.Native.Nat.{ℕ}
 use lib.ListN.{get_or}
+use Rattle.std.specs.Prelude.{Ok, Err}
 use Rattle.laws.specs.Index.{all_below, tab, pad, joined, walk}
 use Rattle.laws.specs.Lists.{repeats}
 use Rattle.filter.specs.Build.{empty_filter}
@@ -16,7 +17,7 @@ use Rattle.table.specs.WellFormed.{filter_fine, bearer_fine, transactions_apart,
 use Rattle.table.proofs.Meaning.{built_right}
 use Rattle.calls.specs.declared.reply.Answer.TheVariants.{Synchronised}
 use Rattle.calls.specs.Reply.{answered}
-use Rattle.status.specs.declared.write.StatusWritten.TheVariants.{Wrote, NoRoom}
+use Rattle.status.specs.declared.write.StatusUnwritten.TheVariants.{NoRoom}
 use Rattle.status.specs.Value.{shown_active, showing}
 use Rattle.status.specs.Write.{showing_at, status_of, StatusOutcome, write_status_of}
 use Rattle.status.specs.Take.{gone_by, synchronise_of}
@@ -34,7 +35,7 @@ abbrev outer : List Role
 outer = Idle ∷ Idle ∷ Idle ∷ Default ∷ Idle ∷ Idle ∷ Idle ∷ Idle ∷ Idle ∷ Default ∷ []
 
 abbrev written : StatusOutcome → List ℕ → Type 0
-written o buffer = o ≡ record { written = Wrote; buffer = buffer }
+written o buffer = o ≡ record { written = Ok tt; buffer = buffer }
 
 abbrev pub Examples : Type 0
 Examples =
@@ -44,7 +45,7 @@ Examples =
     × (status_of (with outer []) ≡ 0x00 ∷ 0x41 ∷ [])
     -- a third octet stays, and one octet is too few
     × written (write_status_of (with three []) (0xEE ∷ 0xEE ∷ 0xEE ∷ [])) (0xE0 ∷ 0x00 ∷ 0xEE ∷ [])
-    × (write_status_of (with three []) (0xEE ∷ []) ≡ record { written = NoRoom; buffer = 0xEE ∷ [] })
+    × (write_status_of (with three []) (0xEE ∷ []) ≡ record { written = Err NoRoom; buffer = 0xEE ∷ [] })
     -- "a default takes its connection, transactions included, even where a dedicated one is shown active": 6 goes with 5, and 7 stays with its transaction
     × (synchronise_of (with three (1 ∷ 2 ∷ 3 ∷ [])) (0xC0 ∷ 0x00 ∷ []) ≡ answered (with (Idle ∷ Idle ∷ Default ∷ []) (0 ∷ 0 ∷ 3 ∷ [])) Synchronised)
     -- a dedicated one goes alone; identities 0 to 4 are ignored

@@ -23,18 +23,22 @@ use Rattle.table.specs.Positions.{Uplink}
 use Rattle.table.specs.Tables.{idle_bearer, View, bearer_of, build, relisted_of}
 use Rattle.table.specs.Ranges.{TableInRange}
 use Rattle.table.specs.WellFormed.{well_formed, RightLists}
-use Rattle.table.proofs.Meaning.{range_says}
+use Rattle.table.proofs.Meaning.{range_says, well_says}
 use Rattle.table.proofs.Relisting.{Alike, relisted_right}
 use Rattle.calls.specs.declared.reply.Refusal.TheVariants.{StatusLength}
 use Rattle.calls.specs.declared.reply.Answer.TheVariants.{Synchronised, Refused}
 use Rattle.calls.specs.Reply.{answered}
-use Rattle.calls.specs.Steps.{cut_view}
+use Rattle.table.specs.Changes.{cut_view}
 use Rattle.calls.specs.Modify.{malformed}
 use Rattle.calls.proofs.Views.{bearer_built}
-use Rattle.calls.proofs.Rows.{with_lists, unlisted, bearer_with, idle_is, row_kept_at, Stored, store_more, store_skip, store_still}
+use Rattle.table.proofs.Rows.{with_lists, unlisted, bearer_with, idle_is, row_kept_at, Stored, store_more, store_skip, store_still}
 use Rattle.status.specs.Value.{status_octets}
 use Rattle.status.specs.Take.{stays_by, gone_by, synchronise_of}
 use Rattle.status.specs.Inner.Take.{mark_of}
+
+-- a table that is well formed has right lists
+pub lists_right : (t : Table) → TableInRange t → well_formed t ≡ true → RightLists t
+lists_right t ok e = ((well_says t ok).to e).lists
 
 module _ (t : Table) (value : List ℕ) where
   pub synchronise_malformed : well_formed t ≡ false → synchronise_of t value ≡ malformed t

@@ -9,6 +9,7 @@ use lib.Dec.{eqb, leb}
 use lib.ListN.{length, take, drop}
 use lib.Seq.{take_at, drop-append_seam}
 use borrow.Author.Tests.{eqb-true, eqb-false}
+use Rattle.std.specs.Prelude.{Ok, Err}
 use Rattle.laws.specs.Says.{pick, Says}
 use Rattle.laws.specs.Lists.{is_in}
 use Rattle.laws.proofs.Says.{which, never, picked, says_it, says_eq, says_le, says_and, says_so, says_ne, unless_here, unless_later, where_here}
@@ -25,16 +26,16 @@ use Rattle.calls.specs.declared.reply.Refusal.TheVariants.{StatusLength}
 use Rattle.calls.specs.declared.reply.Answer.TheVariants.{Synchronised, Refused}
 use Rattle.calls.specs.declared.reply.Outcome.{Outcome}
 use Rattle.calls.specs.Reply.{number_of, answered}
-use Rattle.calls.specs.Steps.{cut_view}
+use Rattle.table.specs.Changes.{cut_view}
 use Rattle.calls.specs.Modify.{malformed}
 use Rattle.calls.specs.Changes.{Sound, Gives, RefusalLeaves, Void}
 use Rattle.calls.specs.Checks.{Identity, Active}
 use Rattle.calls.proofs.Views.{role_built, transaction_built, filter_built, views_same}
-use Rattle.calls.proofs.Rows.{self_built}
+use Rattle.table.proofs.Rows.{self_built}
 use Rattle.calls.proofs.Preserved.{Along}
 use Rattle.calls.proofs.Whole.{cut_sound}
-use Rattle.status.specs.declared.write.StatusWritten.{StatusWritten}
-use Rattle.status.specs.declared.write.StatusWritten.TheVariants.{Wrote, NotWellFormed, NoRoom}
+use Rattle.status.specs.declared.write.StatusUnwritten.{StatusUnwritten}
+use Rattle.status.specs.declared.write.StatusUnwritten.TheVariants.{NotWellFormed, NoRoom}
 use Rattle.status.specs.Value.{status_octets, shown_active, Shown}
 use Rattle.status.specs.Write.{status_of, StatusOutcome, status_number, leaves, wrote, write_status_of, StatusNumbered}
 use Rattle.status.specs.Take.{stays_by, gone_by, synchronise_of, SynchroniseNumbered, Synchronises, StatusTaken}
@@ -62,14 +63,14 @@ module _ (t : Table) (buffer : List ℕ) where
     pub octets : take status_octets o.buffer ≡ status_of t
     pub rest : drop status_octets o.buffer ≡ drop status_octets buffer
 
-  pub status_written : o.written ≡ Wrote → Written
+  pub status_written : o.written ≡ Ok tt → Written
   status_written e =
       ⊎_elim (λ w. ⊎_elim (λ m. wrote_it w (write_fit t buffer w ((says_le status_octets (length buffer)).to m)))
       (λ m. let n : status_octets ≤ length buffer → ⊥ = says_ne (says_le status_octets (length buffer)) m in
       other (write_short t buffer w (omega arith)) (λ z. omega arith)) (which (leb status_octets (length buffer))))
       (λ w. other (write_malformed t buffer w) (λ z. omega arith)) (which (well_formed t))
     where
-      other : {why : StatusWritten} → o ≡ leaves why buffer → (status_number why ≡ 0 → ⊥) → Written
+      other : {why : StatusUnwritten} → o ≡ leaves why buffer → (status_number (Err why) ≡ 0 → ⊥) → Written
       other q n = absurd (n (sym (ap (λ (o : StatusOutcome). status_number o.written) q) ∙ ap status_number e))
 
       wrote_it : well_formed t ≡ true → o ≡ wrote (status_of t) buffer → Written
@@ -83,7 +84,7 @@ module _ (t : Table) (buffer : List ℕ) where
           }
 
   -- what is written shows a bearer active exactly where it is
-  pub written_shows : o.written ≡ Wrote → (n : ℕ) → Says (shown_active (take status_octets o.buffer) n) (Active t n)
+  pub written_shows : o.written ≡ Ok tt → (n : ℕ) → Says (shown_active (take status_octets o.buffer) n) (Active t n)
   written_shows e n = rw (status_written e).octets (status_shows t n)
 
 -- each number is given exactly where its refusal holds, and none before it
@@ -254,7 +255,7 @@ module _ (t : Table) (w : WellFormed t) (i : ℕ) (l : i < bearer_count) where
       go (Dedicated link) q = rw (own_shown (active (Dedicated link) refl q)) (default_shown link q)
 
 -- taking what was written changes nothing
-pub own_status : (t : Table) → TableInRange t → (buffer : List ℕ) → (write_status_of t buffer).written ≡ Wrote
+pub own_status : (t : Table) → TableInRange t → (buffer : List ℕ) → (write_status_of t buffer).written ≡ Ok tt
     → synchronise_of t (take status_octets (write_status_of t buffer).buffer) ≡ answered t Synchronised
 own_status t ok buffer e =
     let k = status_written t buffer e in

@@ -7,7 +7,7 @@ use lib.ListN.{length}
 use borrow.Author.Tests.{lt-leb, le-leb}
 use Rattle.table.specs.declared.bearer.Table.{Table}
 use Rattle.table.specs.WellFormed.{well_formed}
-use Rattle.status.specs.declared.write.StatusWritten.TheVariants.{NotWellFormed, NoRoom}
+use Rattle.status.specs.declared.write.StatusUnwritten.TheVariants.{NotWellFormed, NoRoom}
 use Rattle.status.specs.Value.{status_octets}
 use Rattle.status.specs.Write.{status_of, leaves, wrote, write_status_of}
 

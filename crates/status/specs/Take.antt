@@ -11,7 +11,7 @@ use Rattle.calls.specs.declared.reply.Refusal.TheVariants.{StatusLength}
 use Rattle.calls.specs.declared.reply.Answer.TheVariants.{Synchronised, Refused}
 use Rattle.calls.specs.declared.reply.Outcome.{Outcome}
 use Rattle.calls.specs.Reply.{follow_of, answered}
-use Rattle.calls.specs.Steps.{cut_view}
+use Rattle.table.specs.Changes.{cut_view}
 use Rattle.calls.specs.Modify.{malformed}
 use Rattle.calls.specs.Changes.{Void}
 use Rattle.status.specs.Value.{status_octets, shown_active, Shown}

@@ -1,4 +1,4 @@
--- Document 02, 1/14: "the value of the EPS bearer context status element (TS 24.301 9.9.2.1)"
+-- "The value of the EPS bearer context status element (TS 24.301 9.9.2.1)"
 use Rattle.std.specs.Prelude.{◌≡◌, ℕ, ◌/◌, ◌%◌, ◌^◌, Bool, true, not, List, eqb, get_or, set}
 use Rattle.std.specs.Int.Bits.{bit_and, bit_or}
 

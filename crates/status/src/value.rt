@@ -7,7 +7,7 @@ pub const STATUS_OCTETS: usize = 2;
 fn octet_of(identity: u8) -> usize
     ensures { result ≡ octet_of identity }
 {
-    (identity / 8) as usize
+    usize::from(identity / 8)
 }
 
 fn bit_of(identity: u8) -> u8
@@ -17,17 +17,12 @@ fn bit_of(identity: u8) -> u8
 }
 
 // Of an identity beyond the value's octets: false.
-#[tactic(auto, using(crate::proofs::Values::unseen_past), unfolding(crate::specs::Value::shown_active))]
+#[tactic(auto, unfolding(crate::specs::Value::shown_active))]
 pub fn shown_active(value: &[u8], identity: u8) -> bool
     ensures { result ≡ shown_active value.now identity }
 {
-    let at = octet_of(identity);
-    let bit = bit_of(identity);
-    if at < value.len() {
-        value[at] & bit != 0
-    } else {
-        false
-    }
+    let octet = value.get(octet_of(identity)).copied().unwrap_or(0);
+    octet & bit_of(identity) != 0
 }
 
 // An identity beyond the value's octets is not shown.
@@ -36,9 +31,7 @@ pub(crate) fn show(value: &mut [u8], identity: u8)
     ensures { value.new ≡ showing value.old identity }
 {
     let at = octet_of(identity);
-    let bit = bit_of(identity);
     if at < value.len() {
-        let before = value[at];
-        value[at] = before | bit;
+        value[at] |= bit_of(identity);
     }
 }
