@@ -1,27 +1,32 @@
 -- The first entry that fits, position by position.
-use mathlib.Core.Path.{◌≡◌, refl, ◌∙◌, ap}
+use mathlib.Core.Path.{◌≡◌, refl, sym, ◌∙◌, ap}
 use mathlib.Core.Bool.{Bool, true, false}
 use mathlib.Core.List.{List, [], ◌∷◌}
-use mathlib.Core.Logic.{◌⊎◌, inl, inr, ⊎_elim}
-use Prim.Native.Nat.{ℕ, zero, suc, ◌+◌, ◌<◌}
+use mathlib.Core.Logic.{◌⊎◌, inl, inr}
+use Prim.Native.Nat.{ℕ, zero, suc, ◌+◌, ◌*◌, ◌^◌, ◌<◌, ◌≤◌}
 use native.Mathlib.Nat.{not-suc-le-zero, le_of_suc-le-suc}
 use native.Mathlib.Omega.{arith}
+use borrow.Author.Count.{below_more}
 use lib.ListN.{length, get_or}
 use Rattle.laws.specs.Says.{pick}
-use Rattle.laws.proofs.Says.{last, which, says_eq, says_no}
+use Rattle.laws.proofs.Says.{which, says_eq, says_no}
+use Rattle.laws.proofs.Index.{tab_at}
 use Rattle.filter.specs.declared.packet.Header.{Header}
 use Rattle.filter.specs.Fit.{fits}
 use Rattle.table.specs.declared.bearer.Table.{Table}
-use Rattle.table.specs.Bearers.{index_of, identity_of, filter_at}
+use Rattle.table.specs.Bearers.{last_identity, is_identity, index_of, identity_of, filter_at}
+use Rattle.table.specs.Ranges.{TableInRange}
+use Rattle.laws.proofs.Lists.{all_at}
 use Rattle.table.specs.declared.list.Entry.{Entry}
-use Rattle.table.specs.Lists.{entry_of, nothing}
+use Rattle.table.specs.Lists.{entry_of, nothing, decoded, held_at, held_list}
+use Rattle.table.proofs.Listing.{held_length}
+use Rattle.filter.specs.Sizes.{place_count, precedence_count}
 use Rattle.route.specs.declared.answer.Route.{Route}
 use Rattle.route.specs.declared.answer.Route.TheVariants.{Bearer}
-use Rattle.route.specs.declared.answer.Answer.TheVariants.{Routed}
 use Rattle.route.specs.declared.answer.Why.{Why}
 use Rattle.route.specs.declared.answer.Why.TheVariants.{Filter}
 use Rattle.route.specs.Routes.{filter_of, entry_fits, first_fit}
-use Rattle.route.specs.Why.{routed_by, first_entry}
+use Rattle.route.specs.Why.{route_by, first_entry, why_none, why_on}
 
 -- ---- what an entry names
 module _ (t : Table) (h : Header) where
@@ -81,24 +86,62 @@ module _ (t : Table) (h : Header) where
   never_told otherwise p (e ∷ es) none = rw (none 0 (omega arith)) (never_told otherwise (p + 1) es (λ q l. none (suc q) (omega arith)))
 
   -- the bearer of the first fit is that of the entry told
-  pub told_routes : (otherwise : Why) (route : Route) (p : ℕ) (es : List Entry) → routed_by otherwise ≡ Routed route
-      → routed_by (first_entry t h otherwise p es) ≡ Routed (first_fit t h route es)
+  pub told_routes : (otherwise : Why) (route : Route) (p : ℕ) (es : List Entry) → route_by otherwise ≡ route
+      → route_by (first_entry t h otherwise p es) ≡ first_fit t h route es
   unfolding first_entry first_fit
   told_routes otherwise route p [] same = same
   told_routes otherwise route p (e ∷ es) same = go (entry_fits t h e) (told_routes otherwise route (p + 1) es same)
     where
-      go : (b : Bool) → routed_by (first_entry t h otherwise (p + 1) es) ≡ Routed (first_fit t h route es)
-          → routed_by (pick b (tells p e) (first_entry t h otherwise (p + 1) es)) ≡ Routed (pick b (Bearer e.bearer) (first_fit t h route es))
+      go : (b : Bool) → route_by (first_entry t h otherwise (p + 1) es) ≡ first_fit t h route es
+          → route_by (pick b (tells p e) (first_entry t h otherwise (p + 1) es)) ≡ pick b (Bearer e.bearer) (first_fit t h route es)
       go true later = refl
       go false later = later
 
--- ---- none of the first positions has a test
-module _ (test : ℕ → Bool) where
-  abbrev pub NoneYet : ℕ → Type 0
-  NoneYet n = (p : ℕ) → p < n → test p ≡ false
+  -- ---- over the held list
+  module _ (default : ℕ) where
+    -- an entry is an octet, so the place that it names is there
+    pub held_place : TableInRange t → (p : ℕ) → ((held_at t default p).bearer ≤ last_identity) × ((held_at t default p).place < place_count)
+    unfolding decoded
+    held_place ok p = go (is_identity default)
+      where
+        cell : ℕ
+        cell = get_or t.lists (index_of default * precedence_count + p) 0
 
-  pub none_yet : NoneYet 0
-  none_yet p l = absurd (not-suc-le-zero l)
+        small : cell < 2 ^ 8
+        small = all_at (λ (n : ℕ). n < 2 ^ 8) t.lists 0 ok.lists.all (omega arith) (index_of default * precedence_count + p)
 
-  pub none_more : (n : ℕ) → test n ≡ false → NoneYet n → NoneYet (n + 1)
-  none_more n e none p l = ⊎_elim (none p) (λ q. ap test q ∙ e) (last (let m : p < suc n = omega arith in m))
+        go : (b : Bool) → ((pick b (decoded cell) nothing).bearer ≤ last_identity) × ((pick b (decoded cell) nothing).place < place_count)
+        go true = (omega (arith, small), omega arith)
+        go false = (omega arith, omega arith)
+
+    -- none of the entries at the positions below n fits
+    pub record NoneBelow (n : ℕ) : Type 0 where
+      pub within : n ≤ precedence_count
+      pub none : (p : ℕ) → p < n → entry_fits t h (held_at t default p) ≡ false
+
+    pub none_start : NoneBelow 0
+    none_start = record { within = omega arith; none = λ p l. absurd (not-suc-le-zero l) }
+
+    pub none_more : (n : ℕ) → n < precedence_count → NoneBelow n → entry_fits t h (held_at t default n) ≡ false → NoneBelow (n + 1)
+    none_more n l so here = record { within = omega arith; none = below_more (λ (p : ℕ). entry_fits t h (held_at t default p) ≡ false) n so.none here }
+
+    held_here : (p : ℕ) → p < precedence_count → get_or (held_list t default) p nothing ≡ held_at t default p
+    unfolding held_list
+    held_here p l = tab_at (held_at t default) precedence_count p nothing l
+
+    in_list : (n : ℕ) → NoneBelow n → (p : ℕ) → p < n → fits_in (held_list t default) p ≡ false
+    in_list n so p l = ap (entry_fits t h) (held_here p (omega (arith, so.within))) ∙ so.none p l
+
+    -- the first that fits is told ..
+    pub held_told : (p : ℕ) → p < precedence_count → NoneBelow p → entry_fits t h (held_at t default p) ≡ true
+        → tells p (held_at t default p) ≡ why_on t default h (held_list t default)
+    unfolding why_on
+    held_told p l so fit =
+        ap (tells p) (sym (held_here p l))
+        ∙ (let q : p ≡ 0 + p = omega arith in ap (λ (n : ℕ). tells n (get_or (held_list t default) p nothing)) q)
+        ∙ sym (first_told (why_none t default) 0 p (held_list t default) (omega (arith, held_length t default)) (ap (entry_fits t h) (held_here p l) ∙ fit) (in_list p so))
+
+    -- .. and where there is none, what is done then
+    pub held_never : NoneBelow precedence_count → why_none t default ≡ why_on t default h (held_list t default)
+    unfolding why_on
+    held_never so = sym (never_told (why_none t default) 0 (held_list t default) (λ q l. in_list precedence_count so q (omega (arith, held_length t default))))

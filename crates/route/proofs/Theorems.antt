@@ -1,4 +1,4 @@
--- The theorems of the layer: the route is the one that document 01's rule gives.
+-- The theorems of the layer: the route is the one that the rule gives.
 use mathlib.Core.Path.{◌≡◌, refl, sym, ◌∙◌, ap, subst}
 use mathlib.Core.Bool.{Bool, true, false}
 use mathlib.Core.Logic.{◌↔◌}
@@ -16,24 +16,23 @@ use Rattle.table.specs.WellFormed.{well_formed, WellFormed}
 use Rattle.table.proofs.Listing.{same_place}
 use Rattle.table.proofs.Meaning.{default_of, well_says}
 use Rattle.route.specs.declared.answer.Route.{Route}
-use Rattle.route.specs.declared.answer.Route.TheVariants.{Bearer, Discard}
+use Rattle.route.specs.declared.answer.Route.TheVariants.{Bearer}
 use Rattle.route.specs.declared.answer.Refusal.TheVariants.{NotWellFormed, NoDefault, InvalidHeader}
-use Rattle.route.specs.declared.answer.Answer.TheVariants.{Routed, Refused}
+use Rattle.std.specs.Prelude.{Ok, Err}
 use Rattle.route.specs.declared.answer.Why.{Why}
-use Rattle.route.specs.declared.answer.Why.TheVariants.{Filter, Default, Discard as why_discard, Refused as why_refused}
+use Rattle.route.specs.declared.answer.Why.TheVariants.{Filter, Default, Discard as why_discard}
 use Rattle.route.specs.Routes.{number_of, route_on, route_of}
 use Rattle.route.specs.Rule.{Right, by_filter, by_default, discarded, RouteNumbered}
-use Rattle.route.specs.Why.{routed_by, why_on, why_of, why_number, WhySays}
+use Rattle.route.specs.Why.{route_by, why_on, why_of, why_number, WhySays}
 use Rattle.route.proofs.Whys.{why_right, why_routes, list_routes, number_same}
 
 -- ---- the route
 module _ (t : Table) (ok : TableInRange t) (w : WellFormed t) (default : ℕ) (h : Header) where
   -- what the rule says of the reason, it says of the route
-  reason_right : (a : Why) (r : Route) → routed_by a ≡ Routed r → WhySays t default h a → Right t default h r
-  reason_right (Filter b j p) r e x = let same : Bearer b ≡ r = cc in by_filter x.index j x.least (sym same ∙ ap Bearer x.bearer_is)
-  reason_right (Default d) r e x = let same : Bearer d ≡ r = cc in by_default x.0 x.1.0 (sym same ∙ ap Bearer x.1.1)
-  reason_right why_discard r e x = let same : Discard ≡ r = cc in discarded x.0 x.1.at x.1.holds (sym same)
-  reason_right (why_refused n) r e x = absurd x
+  reason_right : (a : Why) (r : Route) → route_by a ≡ r → WhySays t default h (Ok a) → Right t default h r
+  reason_right (Filter b j p) r e x = by_filter x.index j x.least (sym e ∙ ap Bearer x.bearer_is)
+  reason_right (Default d) r e x = by_default x.0 x.1.0 (sym e ∙ ap Bearer x.1.1)
+  reason_right why_discard r e x = discarded x.0 x.1.at x.1.holds (sym e)
 
   -- the route by the list is right by the rule
   pub route_right : Right t default h (route_on t default h (held_list t default))
@@ -57,7 +56,7 @@ right_one t w default h r s (discarded n j o e) (discarded m k q f) = e ∙ sym 
 module _ (t : Table) (default : ℕ) (h : Header) where
   -- the number, by the tests in turn
   number_by : (w d v : Bool) (route : Route)
-      → number_of (pick w (pick d (pick v (Routed route) (Refused InvalidHeader)) (Refused NoDefault)) (Refused NotWellFormed)) ≡ pick w (pick d (pick v 0 2) 8) 1
+      → number_of (pick w (pick d (pick v (Ok route) (Err InvalidHeader)) (Err NoDefault)) (Err NotWellFormed)) ≡ pick w (pick d (pick v 0 2) 8) 1
   number_by true true true route = refl
   number_by true true false route = refl
   number_by true false v route = refl
@@ -85,15 +84,15 @@ module _ (t : Table) (default : ℕ) (h : Header) where
 
   -- otherwise it gives a route exactly where the route is right
   module _ (ok : TableInRange t) (e : well_formed t ≡ true) (d : is_default (role_of t default) ≡ true) (v : valid_header h ≡ true) where
-    routed : route_of t default h ≡ Routed (route_on t default h (held_list t default))
+    routed : route_of t default h ≡ Ok (route_on t default h (held_list t default))
     unfolding route_of
     routed = rw (e, d, v)
 
-    pub route_says : (r : Route) → (route_of t default h ≡ Routed r) ↔ Right t default h r
+    pub route_says : (r : Route) → (route_of t default h ≡ Ok r) ↔ Right t default h r
     route_says r =
         let w = (well_says t ok).to e in
         let given : Route = route_on t default h (held_list t default) in
         let right : Right t default h given = route_right t ok w default h in (
-          λ q. let z : Routed given ≡ Routed r = sym routed ∙ q in let same : given ≡ r = cc in subst (Right t default h) same right,
-          λ x. routed ∙ ap Routed (right_one t w default h given r right x),
+          λ q. let z : Ok given ≡ Ok r = sym routed ∙ q in let same : given ≡ r = cc in subst (Right t default h) same right,
+          λ x. routed ∙ ap Ok (right_one t w default h given r right x),
         )

@@ -1,4 +1,4 @@
--- The rule of document 01, over all filters of a connection in no order: "of the connection's uplink filters that fit, the one with the least
+-- The rule, over all filters of a connection in no order: "of the connection's uplink filters that fit, the one with the least
 -- precedence gives its bearer. None fits: the default bearer if it has no uplink filter, else discard."
 use Rattle.std.specs.Prelude.{ℕ, ◌<◌, ◌≤◌, Bool, true, ◌≡◌, ◌↔◌}
 use Rattle.filter.specs.declared.component.Filter.{Filter}

@@ -1,5 +1,5 @@
--- Why a packet goes where it goes: the bench's `why`, by the same list as the route (document 02, 7/14).
-use Rattle.std.specs.Prelude.{ℕ, ◌+◌, ◌≡◌, List, [], ◌∷◌}
+-- Why a packet goes where it goes: the bench's `why`, by the same list as the route.
+use Rattle.std.specs.Prelude.{ℕ, ◌+◌, ◌≡◌, List, [], ◌∷◌, Result, Ok, Err}
 use Rattle.laws.specs.Says.{pick}
 use Rattle.laws.specs.Index.{SomeBelow}
 use Rattle.filter.specs.Sizes.{place_count}
@@ -10,28 +10,30 @@ use Rattle.table.specs.declared.list.Entry.{Entry}
 use Rattle.table.specs.Bearers.{index_of, identity_of, bearer_at, is_default, role_of}
 use Rattle.table.specs.Lists.{precedence_at, held_list}
 use Rattle.table.specs.WellFormed.{well_formed}
+use Rattle.route.specs.declared.answer.Route.{Route}
 use Rattle.route.specs.declared.answer.Route.TheVariants.{Bearer, Discard as discard}
+use Rattle.route.specs.declared.answer.Refusal.{Refusal}
 use Rattle.route.specs.declared.answer.Refusal.TheVariants.{NotWellFormed, NoDefault, InvalidHeader}
-use Rattle.route.specs.declared.answer.Answer.{Answer}
-use Rattle.route.specs.declared.answer.Answer.TheVariants.{Routed, Refused as refused}
 use Rattle.route.specs.declared.answer.Why.{Why}
-use Rattle.route.specs.declared.answer.Why.TheVariants.{Filter, Default, Discard, Refused}
+use Rattle.route.specs.declared.answer.Why.TheVariants.{Filter, Default, Discard}
 use Rattle.route.specs.Routes.{refusal_number, entry_fits, has_uplink}
 use Rattle.route.specs.Rule.{OwnUplink, Least, NoneFits}
 
 -- "Numbers given"; 0 where nothing is refused
-abbrev pub why_number : Why → ℕ
-why_number (Filter bearer place precedence) = 0
-why_number (Default default) = 0
-why_number Discard = 0
-why_number (Refused refusal) = refusal_number refusal
+abbrev pub why_number : Result Why Refusal → ℕ
+why_number (Ok why) = 0
+why_number (Err refusal) = refusal_number refusal
 
--- "as `route`, and then why": the route that each reason gives
-abbrev pub routed_by : Why → Answer
-routed_by (Filter bearer place precedence) = Routed (Bearer bearer)
-routed_by (Default default) = Routed (Bearer default)
-routed_by Discard = Routed discard
-routed_by (Refused refusal) = refused refusal
+-- the route that each reason gives
+abbrev pub route_by : Why → Route
+route_by (Filter bearer place precedence) = Bearer bearer
+route_by (Default default) = Bearer default
+route_by Discard = discard
+
+-- "as `route`, and then why"
+abbrev pub routed_by : Result Why Refusal → Result Route Refusal
+routed_by (Ok why) = Ok (route_by why)
+routed_by (Err refusal) = Err refusal
 
 -- "positions 0 to 255 are tried upward and left at the first that fits": its entry, and the position, which is the filter's precedence. The list is tried from
 -- position p on
@@ -47,11 +49,11 @@ unfoldable pub why_on : Table → ℕ → Header → List Entry → Why
 why_on t default h list = first_entry t h (why_none t default) 0 list
 
 -- 1, 8 and 2 as of a route
-unfoldable pub why_of : Table → ℕ → Header → Why
+unfoldable pub why_of : Table → ℕ → Header → Result Why Refusal
 why_of t default h =
     pick (well_formed t)
     (pick (is_default (role_of t default))
-    (pick (valid_header h) (why_on t default h (held_list t default)) (Refused InvalidHeader)) (Refused NoDefault)) (Refused NotWellFormed)
+    (pick (valid_header h) (Ok (why_on t default h (held_list t default))) (Err InvalidHeader)) (Err NoDefault)) (Err NotWellFormed)
 
 -- ---- what each reason says by the rule, over all filters of the connection in no order
 pub record ByFilter (t : Table) (default : ℕ) (h : Header) (bearer place precedence : ℕ) : Type 0 where
@@ -61,8 +63,8 @@ pub record ByFilter (t : Table) (default : ℕ) (h : Header) (bearer place prece
   pub bearer_is : bearer ≡ identity_of index
   pub precedence_is : precedence_at t index place ≡ precedence
 
-abbrev pub WhySays : Table → ℕ → Header → Why → Type 0
-WhySays t default h (Filter bearer place precedence) = ByFilter t default h bearer place precedence
-WhySays t default h (Default bearer) = NoneFits t default h × (((j : ℕ) → OwnUplink t default j → ⊥) × (bearer ≡ default))
-WhySays t default h Discard = NoneFits t default h × SomeBelow place_count (λ j. OwnUplink t default j)
-WhySays t default h (Refused refusal) = ⊥
+abbrev pub WhySays : Table → ℕ → Header → Result Why Refusal → Type 0
+WhySays t default h (Ok (Filter bearer place precedence)) = ByFilter t default h bearer place precedence
+WhySays t default h (Ok (Default bearer)) = NoneFits t default h × (((j : ℕ) → OwnUplink t default j → ⊥) × (bearer ≡ default))
+WhySays t default h (Ok Discard) = NoneFits t default h × SomeBelow place_count (λ j. OwnUplink t default j)
+WhySays t default h (Err refusal) = ⊥

@@ -1,59 +1,64 @@
 // What the choice of a bearer gives.
 ghost use Rattle.std.specs.Prelude.{◌≡◌};
-ghost use Rattle.route.specs.Routes.{number_of};
-ghost use Rattle.route.specs.Why.{routed_by};
+ghost use Rattle.route.specs.Routes.{refusal_number, number_of};
 
-#[derive(Clone, Copy)]
+// Not an Option: to discard a packet is what the rule says of it, and no lack of an answer.
+#[derive(Clone, Copy, PartialEq, Eq)]
 pub enum Route {
     Bearer(u8),
     Discard,
 }
 
-// 1, 8 and 2 of document 01.
-#[derive(Clone, Copy)]
+#[derive(Clone, Copy, PartialEq, Eq)]
 pub enum Refusal {
     NotWellFormed,
     NoDefault,
     InvalidHeader,
 }
 
-#[derive(Clone, Copy)]
-pub enum Answer {
-    Routed(Route),
-    Refused(Refusal),
-}
-
 // By which filter a packet goes, with its bearer, place and precedence; or that none fits, and what is done then.
-#[derive(Clone, Copy)]
+#[derive(Clone, Copy, PartialEq, Eq)]
 pub enum Why {
-    Filter(u8, u8, u8),
+    Filter {
+        bearer: u8,
+        place: u8,
+        precedence: u8,
+    },
     Default(u8),
     Discard,
-    Refused(Refusal),
 }
 
-// 0 where the packet is routed or discarded.
-pub fn number(answer: Answer) -> u8
-    ensures { result ≡ number_of answer }
-{
-    match answer {
-        Answer::Routed(_) => 0,
-        Answer::Refused(refusal) => match refusal {
+impl Refusal {
+    pub fn number(self) -> u8
+        ensures { result ≡ refusal_number self }
+    {
+        match self {
             Refusal::NotWellFormed => 1,
             Refusal::NoDefault => 8,
             Refusal::InvalidHeader => 2,
-        },
+        }
     }
 }
 
-// The route that a reason gives.
-pub(crate) fn routed(why: Why) -> Answer
-    ensures { result ≡ routed_by why }
+// 0 where the packet is routed or discarded.
+pub fn number(answer: Result<Route, Refusal>) -> u8
+    ensures { result ≡ number_of answer }
 {
-    match why {
-        Why::Filter(bearer, _, _) => Answer::Routed(Route::Bearer(bearer)),
-        Why::Default(default) => Answer::Routed(Route::Bearer(default)),
-        Why::Discard => Answer::Routed(Route::Discard),
-        Why::Refused(refusal) => Answer::Refused(refusal),
+    match answer {
+        Ok(_) => 0,
+        Err(refusal) => refusal.number(),
+    }
+}
+
+impl From<Why> for Route {
+    ghost use Rattle.route.specs.Why.{route_by};
+
+    fn from(why: Why) -> Route
+        ensures { result ≡ route_by why }
+    {
+        match why {
+            Why::Filter { bearer, .. } | Why::Default(bearer) => Route::Bearer(bearer),
+            Why::Discard => Route::Discard,
+        }
     }
 }

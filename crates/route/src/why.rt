@@ -1,64 +1,99 @@
 // Why a packet goes where it goes.
-ghost use Rattle.std.specs.Prelude.{◌≡◌};
-ghost use Rattle.laws.specs.Says.{pick};
-ghost use Rattle.route.specs.Why.{why_of, why_number};
+ghost use Rattle.std.specs.Prelude.{◌≡◌, ◌≤◌, ◌<◌};
+ghost use Rattle.filter.specs.Sizes.{place_count};
+ghost use Rattle.table.specs.Bearers.{last_identity, in_row};
+ghost use Rattle.table.specs.Lists.{held_list};
+ghost use Rattle.filter.specs.Fit.{fits};
+ghost use Rattle.route.specs.Routes.{entry_fits, has_uplink};
+ghost use Rattle.route.specs.Why.{why_none, why_on, why_of, why_number};
 
-use crate::answer::{Refusal, Why, number, routed};
-use crate::notes::{CELLS, bearer_at, first_fit, note_row};
-use filter::Header;
-use filter::component::PRECEDENCES;
-use filter::packet::valid_header;
-use table::Table;
-use table::bearer::{BEARERS, FIRST_IDENTITY, in_connection, index_of, is_default};
-use table::well_formed::well_formed;
+use crate::answer::{Refusal, Why};
+use filter::component::{PLACES, PRECEDENCES};
+use filter::{Filter, Header};
+use table::bearer::index_of;
+use table::list::is_uplink;
+use table::{Bearer, Entry, Table};
 
-fn otherwise_of(uplink: bool, default: u8) -> Why
-    ensures { result ≡ pick uplink Why.Discard (Why.Default default) }
+pub fn why_number(answer: Result<Why, Refusal>) -> u8
+    ensures { result ≡ why_number answer }
 {
-    if uplink {
+    match answer {
+        Ok(_) => 0,
+        Err(refusal) => refusal.number(),
+    }
+}
+
+#[tactic(auto, using(table::proofs::Meaning::default_of), unfolding(crate::specs::Why::why_of))]
+pub fn why(table: &Table, default: u8, header: &Header) -> Result<Why, Refusal>
+    ensures { result ≡ why_of table.now default header.now }
+{
+    if !table.well_formed() {
+        return Err(Refusal::NotWellFormed);
+    }
+    if !table.role_of(default).is_default() {
+        return Err(Refusal::NoDefault);
+    }
+    if !header.valid_header() {
+        return Err(Refusal::InvalidHeader);
+    }
+    Ok(first_fit(table, default, header))
+}
+
+// Positions are tried upward, and left at the first whose filter fits with what is told of it, which a `for` cannot give.
+#[tactic(auto, using(crate::proofs::Firsts::held_place, crate::proofs::Firsts::held_told, crate::proofs::Firsts::held_never, crate::proofs::Firsts::none_start, crate::proofs::Firsts::none_more))]
+fn first_fit(table: &Table, default: u8, header: &Header) -> Why
+    requires { default ≤ last_identity }
+    ensures { result ≡ why_on table.now default header.now (held_list table.now default) }
+{
+    // An entry is an octet, so the place that it names is there.
+    table.typed();
+    let mut position: usize = 0;
+    loop {
+        if position == PRECEDENCES {
+            break where_none_fits(table, default);
+        }
+        let entry = table.entry_at(default, position as u8);
+        if entry_fits(table, entry, header) {
+            break Why::Filter {
+                bearer: entry.bearer,
+                place: entry.place,
+                precedence: position as u8,
+            };
+        }
+        position += 1;
+    }
+}
+
+#[tactic(auto, unfolding(crate::specs::Routes::entry_fits, crate::specs::Routes::filter_of))]
+fn entry_fits(table: &Table, entry: Entry, header: &Header) -> bool
+    requires { (entry.bearer ≤ last_identity) × (entry.place < place_count) }
+    ensures { result ≡ entry_fits table.now header.now entry }
+{
+    entry.bearer != 0 && place_fits(&table.bearers[index_of(entry.bearer)], entry.place, header)
+}
+
+fn place_fits(bearer: &Bearer, place: u8, header: &Header) -> bool
+    requires { place < place_count }
+    ensures { result ≡ fits (in_row bearer.now.row place) header.now }
+{
+    bearer.row[place as usize].fits(header)
+}
+
+#[tactic(auto, unfolding(crate::specs::Why::why_none))]
+fn where_none_fits(table: &Table, default: u8) -> Why
+    requires { default ≤ last_identity }
+    ensures { result ≡ why_none table.now default }
+{
+    if has_uplink(&table.bearers[index_of(default)].row) {
         Why::Discard
     } else {
         Why::Default(default)
     }
 }
 
-#[tactic(auto, using(crate::proofs::Whys::number_same))]
-pub fn why_number(answer: Why) -> u8
-    ensures { result ≡ why_number answer }
+#[tactic(auto, unfolding(crate::specs::Routes::has_uplink))]
+fn has_uplink(row: &[Filter; PLACES]) -> bool
+    ensures { result ≡ has_uplink row.now }
 {
-    number(routed(answer))
-}
-
-#[tactic(auto, using(table::proofs::Meaning::default_of, crate::proofs::Noting::found_done, crate::proofs::Noting::noted_first, crate::proofs::Noting::noted_more, crate::proofs::Noting::noted_skip, crate::proofs::Noting::noted_start, crate::proofs::Noting::notes_long, table::proofs::Typed::table_in_range, table::proofs::Meaning::well_says), unfolding(crate::specs::Why::why_of))]
-pub fn why(t: Table, default: u8, header: Header) -> Why
-    ensures { result ≡ why_of t default header }
-{
-    if !well_formed(t) {
-        return Why::Refused(Refusal::NotWellFormed);
-    }
-    // The walk stands here: a function of its own would be handed a copy of the table.
-    // A field cannot be lent, so the lists are copied first.
-    let cells = t.lists;
-    let mut fitting = [false; CELLS];
-    let mut found = false;
-    let mut uplink = false;
-    for i in 0..BEARERS {
-        let b = bearer_at(t, i);
-        let role = b.role;
-        if in_connection(i, role, default) {
-            let up = note_row(&mut fitting[..], i as u8 + FIRST_IDENTITY, b, header);
-            let own = is_default(role);
-            found = found | own;
-            uplink = uplink | (own & up);
-        }
-    }
-    if !found {
-        return Why::Refused(Refusal::NoDefault);
-    }
-    if !valid_header(header) {
-        return Why::Refused(Refusal::InvalidHeader);
-    }
-    let otherwise = otherwise_of(uplink, default);
-    let from = index_of(default) * PRECEDENCES;
-    first_fit(&cells[..], from, &fitting[..], otherwise)
+    row.iter().any(is_uplink)
 }
