@@ -1,4 +1,4 @@
--- DEMAND 1. Every table, message, header and byte string gets an answer from document 01's list. A refusal gives its number and leaves the table
+-- DEMAND 1. Every table, message, header and byte string gets an answer from the list. A refusal gives its number and leaves the table
 -- and lent bytes unchanged (a transaction matched at step 2 is still closed). No caller has to check first.
 -- Assumes nothing.
 use mathlib.Core.Path.{◌≡◌, refl, ◌∙◌, ap, subst}
@@ -7,6 +7,7 @@ use mathlib.Core.List.{List, [], ◌∷◌, ◌++◌}
 use Prim.Native.Nat.{ℕ, ◌+◌, ◌≤◌}
 use lib.Dec.{leb}
 use lib.ListN.{length}
+use Rattle.std.specs.Prelude.{Option, Some, None, Result, Ok, Err}
 use Rattle.laws.specs.Lists.{is_in}
 use Rattle.laws.proofs.Says.{picked}
 use Rattle.laws.proofs.Joined.{in_holds}
@@ -18,18 +19,16 @@ use Rattle.element.specs.declared.answer.Answer.TheVariants.{Filters, Identifier
 use Rattle.element.specs.declared.answer.Element.{Element}
 use Rattle.element.specs.declared.entries.Handed.{Handed}
 use Rattle.element.specs.declared.entries.Handed.TheVariants.{Filter, Identifier, Refused as refused_at_once, End}
+use Rattle.element.specs.declared.write.Unwritten.{Unwritten}
 use Rattle.element.specs.declared.write.Unwritten.TheVariants.{NotGiven, TooLong, NoRoom}
-use Rattle.element.specs.declared.write.Written.{Written}
-use Rattle.element.specs.declared.write.Written.TheVariants.{Wrote, Refused as refused_to}
 use Rattle.element.specs.declared.portions.Portions.{Portions}
-use Rattle.element.specs.declared.portions.PortionsOutcome.{PortionsOutcome}
 use Rattle.element.specs.declared.portions.Finished.{Finished}
 use Rattle.element.specs.Head.{longest}
 use Rattle.element.specs.Numbers.{cause_number, number_of, handed_number, written_number, portions_number, finish_number}
 use Rattle.element.specs.Read.{read_element}
 use Rattle.element.specs.Entries.{nth_of, first_offset, look_at, after_all}
 use Rattle.element.specs.Write.{octets_of, given, written_by, write_of}
-use Rattle.element.specs.Portions.{fed_of, sound, takes, announce_of, feed_of, finish_of, PortionCall, announce, feed, finish, state_after, number_at}
+use Rattle.element.specs.Portions.{PortionsOutcome, fed_of, sound, takes, announce_of, feed_of, finish_of, PortionCall, announce, feed, finish, state_after, number_at}
 use Rattle.element.proofs.Divided.{refused_stays, refused_anywhere, finish_anywhere, announce_gives}
 use Rattle.element.proofs.Stepping.{nth_steps, nth_number}
 use Rattle.table.specs.declared.bearer.Table.{Table}
@@ -48,8 +47,8 @@ use Rattle.calls.specs.Checks.{Open, LeftBy}
 use Rattle.calls.proofs.Closing.{modify_match, activate_match, left_says}
 use Rattle.calls.proofs.Answers.{modify_gives, activate_dedicated_gives, activate_default_gives, deactivate_gives, reject_gives, start_gives}
 use Rattle.calls.proofs.Theorems.{activate_default_malformed, activate_dedicated_malformed, modify_malformed, deactivate_malformed, reject_malformed, start_malformed, modify_refused, activate_dedicated_refused, activate_default_refused, deactivate_refused, reject_refused, start_refused}
-use Rattle.status.specs.declared.write.StatusWritten.{StatusWritten}
-use Rattle.status.specs.declared.write.StatusWritten.TheVariants.{Wrote as wrote_status, NotWellFormed as status_malformed, NoRoom as status_no_room}
+use Rattle.status.specs.declared.write.StatusUnwritten.{StatusUnwritten}
+use Rattle.status.specs.declared.write.StatusUnwritten.TheVariants.{NotWellFormed as status_malformed, NoRoom as status_no_room}
 use Rattle.status.specs.Write.{status_number, write_status_of}
 use Rattle.status.proofs.Taking.{synchronise_malformed}
 use Rattle.status.proofs.Theorems.{status_leaves, synchronise_gives, synchronise_refused}
@@ -58,22 +57,20 @@ use Rattle.messages.specs.declared.layout.Kind.TheVariants.{DedicatedRequest, De
 use Rattle.messages.specs.declared.layout.Kind.TheVariants.{ModifyReject, DeactivateRequest, DeactivateAccept, ModificationReject}
 use Rattle.messages.specs.declared.layout.Fault.{Fault}
 use Rattle.messages.specs.declared.layout.Fault.TheVariants.{Unknown, Framing}
-use Rattle.messages.specs.declared.layout.Tft.{Tft}
-use Rattle.messages.specs.declared.layout.Tft.TheVariants.{At}
+use Rattle.messages.specs.declared.layout.Part.{Part}
 use Rattle.messages.specs.declared.layout.Message.{Message as WholeMessage}
-use Rattle.messages.specs.declared.layout.Parsed.{Parsed}
-use Rattle.messages.specs.declared.layout.Parsed.TheVariants.{Read, Refused as refused_for}
-use Rattle.messages.specs.declared.write.MessageWritten.{MessageWritten}
-use Rattle.messages.specs.declared.write.MessageWritten.TheVariants.{Wrote as wrote_message, Unreadable, NoRoom as message_no_room}
-use Rattle.messages.specs.Read.{parsed_number, read_of, Octets, none, those, Fields, Said, unread, says}
+use Rattle.messages.specs.declared.write.MessageUnwritten.{MessageUnwritten}
+use Rattle.messages.specs.declared.write.MessageUnwritten.TheVariants.{Unreadable, NoRoom as message_no_room}
+use Rattle.messages.specs.Read.{parsed_number, read_of, Fields}
 use Rattle.messages.specs.Write.{writable, value_of, octets_of as message_octets, message_number, MessageOutcome, write_of as write_message_of}
 use Rattle.messages.specs.Handle.{asked_by, refusal_of, refused_of, call_by, handled_by, handle_of}
 use Rattle.messages.specs.Inner.Walk.{Inside}
 use Rattle.messages.proofs.Inside.{tft_inside}
 use Rattle.messages.proofs.Accepting.{no_operation_lem}
 use Rattle.messages.proofs.Carried.{carried}
-use Rattle.route.specs.declared.answer.Answer.{Answer as RouteAnswer}
-use Rattle.route.specs.declared.answer.Answer.TheVariants.{Routed, Refused as route_refused}
+use Rattle.std.specs.Prelude.{Result, Ok, Err}
+use Rattle.route.specs.declared.answer.Route.{Route}
+use Rattle.route.specs.declared.answer.Refusal.{Refusal as RouteRefusal}
 use Rattle.route.specs.declared.answer.Refusal.TheVariants.{NotWellFormed, NoDefault, InvalidHeader}
 use Rattle.route.specs.declared.answer.Why.{Why}
 use Rattle.route.specs.Routes.{number_of as route_number, route_of}
@@ -107,7 +104,7 @@ message_answers t message =
     by Unknown = refl
     by Framing = refl
 
--- "Every table, message .. gets an answer from document 01's list": of the numbers given, those of the call
+-- "Every table, message .. gets an answer from the list": of the numbers given, those of the call
 pub call_answers : (t : Table) (c : Call) → Gives (numbers_of c) (outcome_of t c)
 call_answers t (activate_default bearer) = activate_default_gives t bearer
 call_answers t (activate_dedicated bearer link transaction value) = activate_dedicated_gives t bearer link transaction value
@@ -118,7 +115,7 @@ call_answers t (start transaction bearer) = start_gives t transaction bearer
 call_answers t (synchronise value) = synchronise_gives t value
 call_answers t (handle message) = message_answers t message
 
--- ---- "an answer from document 01's list": every value of an answer's type has a number of the list, so no function that gives an answer, or the number
+-- ---- "an answer from the list": every value of an answer's type has a number of the list, so no function that gives an answer, or the number
 -- of one, gives any other
 cause_numbers : (c : Cause) → is_in (cause_number c) reader_numbers ≡ true
 unfolding is_in
@@ -140,12 +137,12 @@ handed_numbers (Identifier identifier) = refl
 handed_numbers (refused_at_once refusal) = cause_numbers refusal.cause
 handed_numbers End = refl
 
-pub written_numbers : (w : Written) → is_in (written_number w) writer_numbers ≡ true
+pub written_numbers : (w : Result ℕ Unwritten) → is_in (written_number w) writer_numbers ≡ true
 unfolding is_in
-written_numbers (Wrote n) = refl
-written_numbers (refused_to NotGiven) = refl
-written_numbers (refused_to TooLong) = refl
-written_numbers (refused_to NoRoom) = refl
+written_numbers (Ok n) = refl
+written_numbers (Err NotGiven) = refl
+written_numbers (Err TooLong) = refl
+written_numbers (Err NoRoom) = refl
 
 pub reply_numbers_lem : (a : CallAnswer) → is_in (call_number a) reply_numbers ≡ true
 unfolding is_in
@@ -171,21 +168,21 @@ reply_numbers_lem (call_refused StatusLength) = refl
 reply_numbers_lem (call_refused UnknownMessage) = refl
 reply_numbers_lem (call_refused MessageFraming) = refl
 
-pub routed_numbers : (a : RouteAnswer) → is_in (route_number a) route_numbers ≡ true
+pub routed_numbers : (a : Result Route RouteRefusal) → is_in (route_number a) route_numbers ≡ true
 unfolding is_in
-routed_numbers (Routed route) = refl
-routed_numbers (route_refused NotWellFormed) = refl
-routed_numbers (route_refused NoDefault) = refl
-routed_numbers (route_refused InvalidHeader) = refl
+routed_numbers (Ok route) = refl
+routed_numbers (Err NotWellFormed) = refl
+routed_numbers (Err NoDefault) = refl
+routed_numbers (Err InvalidHeader) = refl
 
-pub why_tells : (a : Why) → is_in (why_number a) route_numbers ≡ true
+pub why_tells : (a : Result Why RouteRefusal) → is_in (why_number a) route_numbers ≡ true
 why_tells a = ap (λ (n : ℕ). is_in n route_numbers) (number_same a) ∙ routed_numbers (routed_by a)
 
-pub status_written_numbers : (w : StatusWritten) → is_in (status_number w) status_numbers ≡ true
+pub status_written_numbers : (w : Result (Unit {0}) StatusUnwritten) → is_in (status_number w) status_numbers ≡ true
 unfolding is_in
-status_written_numbers wrote_status = refl
-status_written_numbers status_malformed = refl
-status_written_numbers status_no_room = refl
+status_written_numbers (Ok done) = refl
+status_written_numbers (Err status_malformed) = refl
+status_written_numbers (Err status_no_room) = refl
 
 -- ".. header .."
 pub why_answers : (t : Table) (default : ℕ) (h : Header) → is_in (why_number (why_of t default h)) route_numbers ≡ true
@@ -244,24 +241,24 @@ pub status_answers : (t : Table) (buffer : List ℕ) → is_in (status_number (w
 status_answers t buffer = status_written_numbers (write_status_of t buffer).written
 
 -- .. and the reader of a message, whatever the octets, and its writer
-pub parsed_numbers_lem : (p : Parsed) → is_in (parsed_number p) parsed_numbers ≡ true
+pub parsed_numbers_lem : (p : Result WholeMessage Fault) → is_in (parsed_number p) parsed_numbers ≡ true
 unfolding is_in
-parsed_numbers_lem (Read m) = refl
-parsed_numbers_lem (refused_for Unknown) = refl
-parsed_numbers_lem (refused_for Framing) = refl
+parsed_numbers_lem (Ok m) = refl
+parsed_numbers_lem (Err Unknown) = refl
+parsed_numbers_lem (Err Framing) = refl
 
 pub message_reader_answers : (message : List ℕ) → is_in (parsed_number (read_of message)) parsed_numbers ≡ true
 message_reader_answers message = parsed_numbers_lem (read_of message)
 
 -- .. which reads nothing past the end: the TFT that it tells of lies in the message
-pub message_tft_inside : (message : List ℕ) (m : WholeMessage) (from n : ℕ) → read_of message ≡ Read m → m.tft ≡ At from n → from + n ≤ length message
-message_tft_inside message m from n e a = subst (λ (tft : Tft). Inside tft message) a (tft_inside message m e)
+pub message_tft_inside : (message : List ℕ) (m : WholeMessage) (part : Part) → read_of message ≡ Ok m → m.tft ≡ Some part → part.from + part.octets ≤ length message
+message_tft_inside message m part e a = subst (λ (tft : Option Part). Inside tft message) a (tft_inside message m e)
 
-pub assembled_numbers_lem : (w : MessageWritten) → is_in (message_number w) assembled_numbers ≡ true
+pub assembled_numbers_lem : (w : Result ℕ MessageUnwritten) → is_in (message_number w) assembled_numbers ≡ true
 unfolding is_in
-assembled_numbers_lem (wrote_message n) = refl
-assembled_numbers_lem Unreadable = refl
-assembled_numbers_lem message_no_room = refl
+assembled_numbers_lem (Ok n) = refl
+assembled_numbers_lem (Err Unreadable) = refl
+assembled_numbers_lem (Err message_no_room) = refl
 
 pub message_writer_answers : (f : Fields) (buffer : List ℕ) → is_in (message_number (write_message_of f buffer).written) assembled_numbers ≡ true
 message_writer_answers f buffer = assembled_numbers_lem (write_message_of f buffer).written
@@ -274,10 +271,10 @@ message_leaves t message = by (asked_by message)
     not_asked : (fault : Fault) → RefusalLeaves t (refused_of fault t)
     not_asked fault = picked (RefusalLeaves t) (well_formed t) _ _ (λ r. refl) (λ r. refl)
 
-    by_kind : (kind : Kind) (tft : Octets) (bearer x : ℕ) → RefusalLeaves (left_by_kind kind t x) (call_by kind tft t bearer x)
+    by_kind : (kind : Kind) (tft : Option (List ℕ)) (bearer x : ℕ) → RefusalLeaves (left_by_kind kind t x) (call_by kind tft t bearer x)
     by_kind (DedicatedRequest link) tft bearer x = activate_dedicated_refused t bearer link x (value_of tft)
-    by_kind ModifyRequest none bearer x = subst (RefusalLeaves (matched_in t x)) (no_operation_lem t bearer x) (modify_refused t bearer x (0xC0 ∷ []))
-    by_kind ModifyRequest (those value) bearer x = modify_refused t bearer x value
+    by_kind ModifyRequest None bearer x = subst (RefusalLeaves (matched_in t x)) (no_operation_lem t bearer x) (modify_refused t bearer x (0xC0 ∷ []))
+    by_kind ModifyRequest (Some value) bearer x = modify_refused t bearer x value
     by_kind (DeactivateRequest why) tft bearer x = deactivate_refused t bearer x
     by_kind (ModificationReject why) tft bearer x = reject_refused t x why
     by_kind DedicatedAccept tft bearer x = not_asked Unknown
@@ -286,9 +283,9 @@ message_leaves t message = by (asked_by message)
     by_kind (ModifyReject why) tft bearer x = not_asked Unknown
     by_kind DeactivateAccept tft bearer x = not_asked Unknown
 
-    by : (s : Said) → RefusalLeaves (left_by_said s t) (handled_by s t).outcome
-    by (unread fault) = not_asked fault
-    by (says f) = by_kind f.kind f.tft f.bearer f.transaction
+    by : (s : Result Fields Fault) → RefusalLeaves (left_by_said s t) (handled_by s t).outcome
+    by (Err fault) = not_asked fault
+    by (Ok f) = by_kind f.kind f.tft f.bearer f.transaction
 
 -- "A refusal gives its number and leaves the table .. unchanged (a transaction matched at step 2 is still closed)"
 pub refusal_leaves : (t : Table) (c : Call) → RefusalLeaves (left_by t c) (outcome_of t c)
@@ -324,7 +321,7 @@ malformed_leaves t (synchronise value) e = synchronise_malformed t value e
 malformed_leaves t (handle message) e =
     carried t (λ (o : Outcome). o ≡ malformed t) (λ fault. rw e) (activate_dedicated_malformed t e) (modify_malformed t e) (deactivate_malformed t e) (reject_malformed t e) message
 
--- document 02, 2/14: "A refused portion or finish leaves everything fed before as it stood", to the octet
+-- "A refused portion or finish leaves everything fed before as it stood", to the octet
 pub portions_leave : (p : Portions) (portion : List ℕ) → number_at p (feed portion) ≡ 13 → (feed_of p portion).state ≡ p
 portions_leave = refused_stays
 

@@ -1,18 +1,19 @@
--- DEMAND 2. The new table, reply, cause and follow-up list are those of document 01; bytes are read as TS 24.008 lays them out; an operation written
+-- DEMAND 2. The new table, reply, cause and follow-up list are those of the rules; bytes are read as TS 24.008 lays them out; an operation written
 -- and read again is the same; cause 44 exactly when some well-coded filter fits no packet.
 -- That a function's outcome is its definition's is the function's contract; crates/*/specs has the definitions, under the sentences that they write down.
 -- Assumes nothing.
+use Rattle.std.specs.Prelude.{None, Some}
 use mathlib.Core.Path.{◌≡◌, sym, ◌∙◌}
 use mathlib.Core.Logic.{◌⊎◌, ⊎_elim, ◌↔◌}
 use mathlib.Core.Bool.{Bool, true, false}
 use mathlib.Core.List.{List, [], ◌∷◌, ◌++◌, map, flatten}
 use Prim.Native.Nat.{ℕ, ◌<◌, ◌≤◌}
 use lib.ListN.{length, take, drop, get_or}
+use Rattle.std.specs.Prelude.{Some, None, Ok, Err}
 use Rattle.laws.specs.Says.{Says}
 use Rattle.laws.specs.Lists.{All, is_in}
 use Rattle.filter.specs.declared.component.Filter.{Filter}
 use Rattle.filter.specs.declared.packet.Header.{Header}
-use Rattle.filter.specs.declared.component.Protocol.TheVariants.{Absent as no_protocol, Is as is_protocol}
 use Rattle.filter.specs.Sizes.{place_count}
 use Rattle.filter.specs.Fit.{valid_header, fits, fits_by}
 use Rattle.filter.specs.Fittable.{fittable, SomePacketFits}
@@ -24,11 +25,8 @@ use Rattle.filter.proofs.Sctp.{sctp_named, sctp_alike, other_packets, fits_still
 use Rattle.element.specs.declared.answer.Refusal.{Refusal as ReadRefusal}
 use Rattle.element.specs.declared.answer.Answer.TheVariants.{Refused as ReadRefused}
 use Rattle.element.specs.declared.answer.Element.{Element}
-use Rattle.element.specs.declared.write.Written.TheVariants.{Wrote}
 use Rattle.element.specs.Head.{longest}
 use Rattle.element.specs.declared.portions.Portions.{Portions}
-use Rattle.element.specs.declared.portions.PortionsAnswer.TheVariants.{Taken}
-use Rattle.element.specs.declared.portions.FinishAnswer.TheVariants.{Read}
 use Rattle.element.specs.Numbers.{number_of as read_number, placed_number, written_number, finish_number}
 use Rattle.element.specs.Framing.{framed_of}
 use Rattle.element.specs.Places.{place_of}
@@ -60,7 +58,6 @@ use Rattle.calls.specs.declared.reply.Refusal.TheVariants.{UnknownMessage}
 use Rattle.calls.specs.declared.reply.Answer.TheVariants.{Synchronised, Refused}
 use Rattle.calls.specs.Reply.{answered}
 use Rattle.calls.specs.Checks.{Identity, Active, Placed, Unplaced}
-use Rattle.status.specs.declared.write.StatusWritten.TheVariants.{Wrote as wrote_status}
 use Rattle.status.specs.Value.{status_octets, shown_active}
 use Rattle.status.specs.Write.{status_number, write_status_of, StatusNumbered}
 use Rattle.status.specs.Take.{synchronise_of, StatusTaken}
@@ -69,10 +66,8 @@ use Rattle.status.proofs.Examples.{Examples, examples}
 use Rattle.messages.specs.declared.layout.Kind.{Kind}
 use Rattle.messages.specs.declared.layout.Kind.TheVariants.{DedicatedRequest, ModifyRequest, DeactivateRequest, ModificationReject}
 use Rattle.messages.specs.declared.layout.Fault.{Fault}
-use Rattle.messages.specs.declared.write.MessageWritten.TheVariants.{Wrote as wrote_message}
-use Rattle.messages.specs.declared.handle.Sending.TheVariants.{Silent, Sends}
 use Rattle.messages.specs.Layout.{head_octets, type_of}
-use Rattle.messages.specs.Read.{parsed_number, read_of, none as no_tft, those, Fields, unread, says, said_of}
+use Rattle.messages.specs.Read.{parsed_number, read_of, Fields, said_of}
 use Rattle.messages.specs.Write.{message_number, write_of as write_message_of}
 use Rattle.messages.specs.Handle.{reply_types, asked_by, accept_of, sending_of, handle_of}
 use Rattle.messages.specs.Meaning.{Ours, ReadNumbered, Composed, Skipped, FieldsInRange, WriteNumbered, AnswerReads, PlacedIn, ReadsAs as SentAs}
@@ -87,7 +82,7 @@ use Rattle.promises.specs.Messages.{Message, modifies, activates, bearer_named, 
 use Rattle.promises.specs.Calls.{Call, activate_default, activate_dedicated, modify, deactivate, reject, start, synchronise, handle, outcome_of}
 use Rattle.route.specs.Routes.{number_of as route_number, route_of}
 use Rattle.route.specs.declared.answer.Route.{Route}
-use Rattle.route.specs.declared.answer.Answer.TheVariants.{Routed}
+use Rattle.std.specs.Prelude.{Ok}
 use Rattle.route.specs.Rule.{Fitting, Right, RightBy, RouteNumbered}
 use Rattle.route.specs.Why.{why_number, why_of}
 use Rattle.route.proofs.Theorems.{route_numbers_lem, route_says, why_numbers}
@@ -98,7 +93,7 @@ pub well_formed_tables : (t : Table) → TableInRange t → Says (well_formed t)
 well_formed_tables = well_says
 
 -- ---- Of a modify message and of a dedicated activation, on any table
--- "cause": each number of document 01's order of checks is given exactly where its step refuses, and no step before it does
+-- "cause": each number of the order of checks is given exactly where its step refuses, and no step before it does
 pub message_numbers_lem : (t : Table) → TableInRange t → (m : Message) → MessageNumbered t m (number_given t m)
 message_numbers_lem t r (modifies bearer transaction value) = modify_numbers t r bearer transaction value
 message_numbers_lem t r (activates bearer link transaction value) = activate_numbers t r bearer link transaction value
@@ -120,7 +115,7 @@ route_numbers_given t r default h = route_numbers_lem t default h r
 pub why_numbers_given : (t : Table) → TableInRange t → (default : ℕ) (h : Header) → RouteNumbered t default h (why_number (why_of t default h))
 why_numbers_given t r default h = why_numbers t default h r
 
--- document 02, 6/14: "pass the place on, counted in the element's value": a reject with 42, 44 or 45 has the place of the value (`values_placed`), at step 4 too;
+-- "pass the place on, counted in the element's value": a reject with 42, 44 or 45 has the place of the value (`values_placed`), at step 4 too;
 -- one with 41, 43 or 47 has none, and nor has any of a default activation, which brings no element
 pub places_passed_on : (t : Table) (m : Message) → Placed (value_of m) (handled m t).reply.answer
 places_passed_on t (modifies bearer transaction value) = modify_placed t bearer transaction value
@@ -170,7 +165,7 @@ reads_45 = reader_45
 pub reads_44 : (value : List ℕ) → All Octet value → (read_number (read_element value).answer ≡ 44) ↔ SomeFilterUnfit value
 reads_44 = reader_44
 
--- document 02, 6/14: "Every refusal of the element reader should carry a place, the offset from 0": where it is, for whichever reason the value is refused
+-- "Every refusal of the element reader should carry a place, the offset from 0": where it is, for whichever reason the value is refused
 pub refusals_placed : (value : List ℕ) → All Octet value → (refusal : ReadRefusal) → (read_element value).answer ≡ ReadRefused refusal
     → PlaceSays value refusal.place
 refusals_placed value octets refusal is = refusal_placed value refusal is octets
@@ -188,12 +183,12 @@ refusals_apart = refusal_apart
 
 -- ---- Of the writer
 -- "an operation written and read again is the same"
-pub written_and_read : (e : Element) → ElementInRange e → (buffer : List ℕ) (n : ℕ) → (write_of e buffer).written ≡ Wrote n
+pub written_and_read : (e : Element) → ElementInRange e → (buffer : List ℕ) (n : ℕ) → (write_of e buffer).written ≡ Ok n
     → read_element (take n (write_of e buffer).buffer) ≡ e
 written_and_read e r buffer n = written_reads e r buffer n
 
 -- "The writer puts filters in rising identifier and components in rising type."
-pub written_in_order : (e : Element) → ElementInRange e → (buffer : List ℕ) (n : ℕ) → (write_of e buffer).written ≡ Wrote n
+pub written_in_order : (e : Element) → ElementInRange e → (buffer : List ℕ) (n : ℕ) → (write_of e buffer).written ≡ Ok n
     → InOrder (framed_of (take n (write_of e buffer).buffer))
 written_in_order = writer_order
 
@@ -210,13 +205,13 @@ module _ (e : Element) (r : ElementInRange e) (buffer : List ℕ) where
   pub writes_9 : (written_number (write_of e buffer).written ≡ 9) ↔ ((ReadsAs e × (length (octets_of e) ≤ longest)) × (length buffer < length (octets_of e)))
   writes_9 = writer_9 e r buffer
 
--- ---- Of the bearer status, document 02, 1/14
+-- ---- Of the bearer status
 -- "Refusals: 1 first, .. then 9 on writing"; those of taking one are in `numbers_given`
 pub status_numbers_given : (t : Table) → TableInRange t → (buffer : List ℕ) → StatusNumbered t buffer (status_number (write_status_of t buffer).written)
 status_numbers_given = status_numbers_lem
 
 -- "1 for active": of every identity, and so "identities 0 to 4 written 0"
-pub status_shows_active : (t : Table) (buffer : List ℕ) → (write_status_of t buffer).written ≡ wrote_status
+pub status_shows_active : (t : Table) (buffer : List ℕ) → (write_status_of t buffer).written ≡ Ok tt
     → (n : ℕ) → Says (shown_active (take status_octets (write_status_of t buffer).buffer) n) (Active t n)
 status_shows_active = written_shows
 
@@ -227,12 +222,12 @@ pub status_taken : (t : Table) (value : List ℕ) → TableInRange t → WellFor
 status_taken = synchronise_takes
 
 -- "Octets after those written stay"
-pub status_others_stay : (t : Table) (buffer : List ℕ) → (write_status_of t buffer).written ≡ wrote_status
+pub status_others_stay : (t : Table) (buffer : List ℕ) → (write_status_of t buffer).written ≡ Ok tt
     → drop status_octets (write_status_of t buffer).buffer ≡ drop status_octets buffer
 status_others_stay t buffer e = (status_written t buffer e).rest
 
 -- what was written, taken, changes nothing; and what was taken, taken again, gives the same table and reply
-pub status_own : (t : Table) → TableInRange t → (buffer : List ℕ) → (write_status_of t buffer).written ≡ wrote_status
+pub status_own : (t : Table) → TableInRange t → (buffer : List ℕ) → (write_status_of t buffer).written ≡ Ok tt
     → synchronise_of t (take status_octets (write_status_of t buffer).buffer) ≡ answered t Synchronised
 status_own = own_status
 
@@ -248,17 +243,17 @@ status_spare = spare_ignored
 pub status_examples : Examples
 status_examples = examples
 
--- ---- Of an element that arrives split, document 02, 2/14
+-- ---- Of an element that arrives split
 -- "However it was divided, the reading or cause is the one for the whole string": for every list of at most 255 octets and every way to cut it, empty portions
 -- among them
 pub portions_reads : (xs : List ℕ) → length xs ≤ longest → (portions : List (List ℕ)) → flatten portions ≡ xs
-    → finish_of (state_after (announce_of (length xs)).state (map feed portions)) ≡ finished Read xs
+    → finish_of (state_after (announce_of (length xs)).state (map feed portions)) ≡ finished (Ok tt) xs
 portions_reads = divided_reads
 
 -- .. and with refused portions, and finishes, anywhere between
 pub portions_reads_between : (xs : List ℕ) → length xs ≤ longest → (portions : List (List ℕ)) → flatten portions ≡ xs
     → (calls : List PortionCall) → Feeds (announce_of (length xs)).state calls portions
-    → finish_of (state_after (announce_of (length xs)).state calls) ≡ finished Read xs
+    → finish_of (state_after (announce_of (length xs)).state calls) ≡ finished (Ok tt) xs
 portions_reads_between = divided_between
 
 -- what was fed, the first `fed` octets of the state, is then the whole string, whatever call it is handed to
@@ -274,7 +269,7 @@ portions_so_far = state_so_far
 
 pub portions_taken : (n : ℕ) → n ≤ longest → (calls : List PortionCall) (portions : List (List ℕ)) → Feeds (announce_of n).state calls portions
     → (portion : List ℕ) → length (flatten portions ++ portion) ≤ n
-    → feed_of (state_after (announce_of n).state calls) portion ≡ leaving (holding n (flatten portions ++ portion)) Taken
+    → feed_of (state_after (announce_of n).state calls) portion ≡ leaving (holding n (flatten portions ++ portion)) (Ok tt)
 portions_taken = portion_taken
 
 -- "Announcing 0 finishes with 42."
@@ -299,7 +294,7 @@ portions_fed = feed_gives
 pub portions_finished : (p : Portions) → PortionsInRange p → FinishGives p (finish_of p)
 portions_finished = finish_gives
 
--- ---- Of SCTP, document 02, 4/14: "132 carries both ports as well." By `fits_before` only TCP and UDP do
+-- ---- Of SCTP: "132 carries both ports as well." By `fits_before` only TCP and UDP do
 -- by two answers to which protocols carry ports that agree at a header's protocol, a filter fits the same there ..
 pub fit_by_protocol : (a b : ℕ → Bool) (f : Filter) (h : Header) → a h.protocol ≡ b h.protocol → fits_by a f h ≡ fits_by b f h
 fit_by_protocol = fits_same
@@ -310,7 +305,7 @@ pub other_packets_as_before : (f : Filter) (h : Header) → (h.protocol ≡ sctp
 other_packets_as_before = other_packets
 
 pub sctp_as_named : (f : Filter) (h : Header) (p : ℕ) → tcp_or_udp p ≡ true
-    → fits (naming (is_protocol sctp) f) (of_protocol sctp h) ≡ fits_before (naming (is_protocol p) f) (of_protocol p h)
+    → fits (naming (Some sctp) f) (of_protocol sctp h) ≡ fits_before (naming (Some p) f) (of_protocol p h)
 sctp_as_named = sctp_named
 
 -- "Held filters with a port and no protocol now fit SCTP packets too": each fits some SCTP packet, and no filter with a port fitted any; and it fits an SCTP
@@ -321,7 +316,7 @@ sctp_fitted_too = sctp_too
 pub port_fitted_no_sctp : (f : Filter) → (NoPort f → ⊥) → (h : Header) → h.protocol ≡ sctp → fits_before f h ≡ false
 port_fitted_no_sctp = port_before
 
-pub sctp_as_open : (f : Filter) → f.protocol ≡ no_protocol → (h : Header) (p : ℕ) → tcp_or_udp p ≡ true
+pub sctp_as_open : (f : Filter) → f.protocol ≡ None → (h : Header) (p : ℕ) → tcp_or_udp p ≡ true
     → fits f (of_protocol sctp h) ≡ fits_before f (of_protocol p h)
 sctp_as_open = sctp_alike
 
@@ -334,7 +329,7 @@ fits_as_before = fits_still
 
 -- "cause 44 .. follow", by `some_packet` and `cause_44`: some packet fits exactly the filters that some packet fitted, and those with a port and SCTP that some
 -- would have fitted with TCP in the place of SCTP. None fitted these
-pub fitted_from_now_on : (f : Filter) → SomePacketFits f ↔ (SomePacketFitted f ⊎ (PortOfSctp f × SomePacketFitted (naming (is_protocol tcp) f)))
+pub fitted_from_now_on : (f : Filter) → SomePacketFits f ↔ (SomePacketFitted f ⊎ (PortOfSctp f × SomePacketFitted (naming (Some tcp) f)))
 fitted_from_now_on = fitted_now
 
 pub sctp_unfitted_before : (f : Filter) → PortOfSctp f → SomePacketFitted f → ⊥
@@ -365,20 +360,20 @@ sctp_routes_stay t default h none =
 -- .. so that in either case, on a well-formed table, for an active default and a valid header, the call gives the route that was right before
 pub route_given_stays : (t : Table) → TableInRange t → well_formed t ≡ true → (default : ℕ) → is_default (role_of t default) ≡ true
     → (h : Header) → valid_header h ≡ true → (h.protocol ≡ sctp → ⊥) ⊎ ((i j : ℕ) → Fitting t default h i j → NoPort (filter_at t i j))
-    → (r : Route) → (route_of t default h ≡ Routed r) ↔ RightBy fits_before t default h r
+    → (r : Route) → (route_of t default h ≡ Ok r) ↔ RightBy fits_before t default h r
 route_given_stays t k w default d h v case r =
     let same = ⊎_elim (λ n. routes_stay t default h n r) (λ none. sctp_routes_stay t default h none r) case in
     let given = route_says t default h k w d v r in
     (λ e. same.1 (given.0 e), λ x. given.1 (same.0 x))
 
--- ---- Of whole messages, document 02, 5/14
+-- ---- Of whole messages
 -- "What our writer produces reads back the same."
-pub messages_read_back : (f : Fields) (buffer : List ℕ) (n : ℕ) → (write_message_of f buffer).written ≡ wrote_message n
-    → said_of (take n (write_message_of f buffer).buffer) ≡ says f
+pub messages_read_back : (f : Fields) (buffer : List ℕ) (n : ℕ) → (write_message_of f buffer).written ≡ Ok n
+    → said_of (take n (write_message_of f buffer).buffer) ≡ Ok f
 messages_read_back = written_back
 
 -- "Octets after those written stay"
-pub messages_others_stay : (f : Fields) (buffer : List ℕ) (n : ℕ) → (write_message_of f buffer).written ≡ wrote_message n
+pub messages_others_stay : (f : Fields) (buffer : List ℕ) (n : ℕ) → (write_message_of f buffer).written ≡ Ok n
     → drop n (write_message_of f buffer).buffer ≡ drop n buffer
 messages_others_stay = written_stays
 
@@ -392,7 +387,7 @@ messages_read = message_numbers_read
 
 -- "QoS and optional elements other than the TFT are framed as that standard lists them": octets say a message exactly where they are its parts, one after the other
 -- (`Composed`); and "16 for framing" exactly where they are no message's
-pub messages_composed : (message : List ℕ) (f : Fields) → (said_of message ≡ says f) ↔ Composed f message
+pub messages_composed : (message : List ℕ) (f : Fields) → (said_of message ≡ Ok f) ↔ Composed f message
 messages_composed = reads_exactly
 
 pub messages_framing : (message : List ℕ)
@@ -402,31 +397,31 @@ messages_framing = framing_exactly
 -- ".. and skipped": where a message reads, after any octets that it begins with
 -- and that are a message by themselves, one element more that is listed, whatever it holds, changes nothing of what the octets say, whatever octets follow; nor of
 -- what is done and answered
-pub messages_skip : (front e tail : List ℕ) (f : Fields) → said_of front ≡ says f → Skipped f.kind e → said_of (front ++ (e ++ tail)) ≡ said_of (front ++ tail)
+pub messages_skip : (front e tail : List ℕ) (f : Fields) → said_of front ≡ Ok f → Skipped f.kind e → said_of (front ++ (e ++ tail)) ≡ said_of (front ++ tail)
 messages_skip = skipped_changes_nothing
 
-pub messages_skip_handled : (front e tail : List ℕ) (f : Fields) → said_of front ≡ says f → Skipped f.kind e
+pub messages_skip_handled : (front e tail : List ℕ) (f : Fields) → said_of front ≡ Ok f → Skipped f.kind e
     → (t : Table) → handle_of t (front ++ (e ++ tail)) ≡ handle_of t (front ++ tail)
 messages_skip_handled = skipped_handled
 
 -- so two messages that differ in skipped elements alone say the same
-pub messages_alike : (front tail : List ℕ) (f : Fields) → said_of front ≡ says f → (es fs : List (List ℕ)) → All (Skipped f.kind) es → All (Skipped f.kind) fs
+pub messages_alike : (front tail : List ℕ) (f : Fields) → said_of front ≡ Ok f → (es fs : List (List ℕ)) → All (Skipped f.kind) es → All (Skipped f.kind) fs
     → said_of (front ++ (flatten es ++ tail)) ≡ said_of (front ++ (flatten fs ++ tail))
 messages_alike = skipped_alike
 
 -- a message is handled exactly as the call of its fields, on any table, so that every promise on the calls is one on messages; those over `Call` are said of both.
 -- "A modify without a TFT is accepted after steps 1 to 3 and changes nothing but a closed transaction": it is as one with no operation
-module _ (t : Table) (message : List ℕ) (f : Fields) (asked : asked_by message ≡ says f) where
-  pub whole_modify : (value : List ℕ) → f.kind ≡ ModifyRequest → f.tft ≡ those value → (handle_of t message).outcome ≡ outcome_of t (modify f.bearer f.transaction value)
+module _ (t : Table) (message : List ℕ) (f : Fields) (asked : asked_by message ≡ Ok f) where
+  pub whole_modify : (value : List ℕ) → f.kind ≡ ModifyRequest → f.tft ≡ Some value → (handle_of t message).outcome ≡ outcome_of t (modify f.bearer f.transaction value)
   whole_modify = message_modifies t message f asked
 
-  pub whole_modify_without : f.kind ≡ ModifyRequest → f.tft ≡ no_tft
+  pub whole_modify_without : f.kind ≡ ModifyRequest → f.tft ≡ None
       → ((handle_of t message).outcome ≡ accept_of t f.bearer f.transaction) × ((handle_of t message).outcome ≡ outcome_of t (modify f.bearer f.transaction (0xC0 ∷ [])))
   whole_modify_without k n =
       let e = message_accepts t message f asked k n in
       (e, e ∙ sym (no_operation_lem t f.bearer f.transaction))
 
-  pub whole_dedicated : (link : ℕ) (value : List ℕ) → f.kind ≡ DedicatedRequest link → f.tft ≡ those value
+  pub whole_dedicated : (link : ℕ) (value : List ℕ) → f.kind ≡ DedicatedRequest link → f.tft ≡ Some value
       → (handle_of t message).outcome ≡ outcome_of t (activate_dedicated f.bearer link f.transaction value)
   whole_dedicated = message_activates t message f asked
 
@@ -436,7 +431,7 @@ module _ (t : Table) (message : List ℕ) (f : Fields) (asked : asked_by message
   pub whole_reject : (why : ℕ) → f.kind ≡ ModificationReject why → (handle_of t message).outcome ≡ outcome_of t (reject f.transaction why)
   whole_reject = message_rejects t message f asked
 
-  -- document 02, 6/14: the place is counted in the TFT's value, wherever it stands in the message; without a TFT there is none
+  -- the place is counted in the TFT's value, wherever it stands in the message; without a TFT there is none
   pub whole_places_passed_on : PlacedIn f.tft (handle_of t message).outcome.reply.answer
   whole_places_passed_on = message_placed t message f asked
 
@@ -445,15 +440,15 @@ module _ (t : Table) (message : List ℕ) (f : Fields) (asked : asked_by message
   pub whole_answer : All Octet message → AnswerReads f.kind (handle_of t message).outcome.reply.answer (handle_of t message).answer
   whole_answer = answer_reads t message f asked
 
-  pub whole_answered : SendsReply (handle_of t message).outcome.reply.answer → (reply : Kind) × (sending_of f.kind (handle_of t message).outcome.reply.answer ≡ Sends reply)
+  pub whole_answered : SendsReply (handle_of t message).outcome.reply.answer → (reply : Kind) × (sending_of f.kind (handle_of t message).outcome.reply.answer ≡ Some reply)
   whole_answered = answer_sent t message f asked
 
 -- a dedicated request always has its TFT
-pub whole_dedicated_tft : (message : List ℕ) (f : Fields) (link : ℕ) → said_of message ≡ says f → f.kind ≡ DedicatedRequest link → (value : List ℕ) × (f.tft ≡ those value)
+pub whole_dedicated_tft : (message : List ℕ) (f : Fields) (link : ℕ) → said_of message ≡ Ok f → f.kind ≡ DedicatedRequest link → (value : List ℕ) × (f.tft ≡ Some value)
 whole_dedicated_tft = activation_has_tft
 
 -- what is asked is what the octets say, but for the replies: "15 .. for a reply type (C6, C7, CA, CB, CE) where a message is handled"
-pub whole_asked : (message : List ℕ) (f : Fields) → is_in (type_of f.kind) reply_types ≡ false → (asked_by message ≡ says f) ↔ (said_of message ≡ says f)
+pub whole_asked : (message : List ℕ) (f : Fields) → is_in (type_of f.kind) reply_types ≡ false → (asked_by message ≡ Ok f) ↔ (said_of message ≡ Ok f)
 whole_asked message f n = (asked_said message f, said_asked message f n)
 
 pub whole_replies : (t : Table) (message : List ℕ) → well_formed t ≡ true → is_in (get_or message 2 0) reply_types ≡ true
@@ -461,7 +456,7 @@ pub whole_replies : (t : Table) (message : List ℕ) → well_formed t ≡ true 
 whole_replies = reply_refused
 
 -- and to a message that is refused itself nothing is sent
-pub whole_refused : (t : Table) (message : List ℕ) (fault : Fault) → asked_by message ≡ unread fault → SentAs Silent 0 (handle_of t message).answer
+pub whole_refused : (t : Table) (message : List ℕ) (fault : Fault) → asked_by message ≡ Err fault → SentAs None 0 (handle_of t message).answer
 whole_refused = refused_silent
 
 -- kinds, framings, offsets, refusals and answers, computed

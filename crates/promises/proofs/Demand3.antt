@@ -38,14 +38,14 @@ use Rattle.table.proofs.Meaning.{bearers_say, well_says}
 use Rattle.calls.specs.declared.reply.Outcome.{Outcome}
 use Rattle.calls.specs.Modify.{malformed}
 use Rattle.calls.specs.Changes.{Sound, Unnamed}
-use Rattle.calls.proofs.Rows.{with_lists}
+use Rattle.table.proofs.Rows.{with_lists}
 use Rattle.calls.proofs.Whole.{activate_default_sound, activate_dedicated_sound, modify_sound, deactivate_sound, reject_sound, start_sound}
 use Rattle.calls.proofs.Release.{modify_unnamed, activate_unnamed}
 use Rattle.status.specs.Write.{status_number, write_status_of}
 use Rattle.status.proofs.Theorems.{synchronise_sound, status_numbers_lem}
 use Rattle.messages.proofs.Carried.{carried_over}
 use Rattle.route.specs.declared.answer.Route.{Route}
-use Rattle.route.specs.declared.answer.Answer.TheVariants.{Routed}
+use Rattle.std.specs.Prelude.{Ok}
 use Rattle.route.specs.Routes.{number_of as route_number, route_on, route_of}
 use Rattle.route.specs.Rule.{Right}
 use Rattle.route.proofs.Theorems.{route_right, right_one, route_says, route_numbers_lem, why_numbers}
@@ -120,11 +120,11 @@ module _ (cs : List Call) (sent : All Sent cs) where
 
   -- .. and for an active default and a valid header it is what the call gives
   pub route_by_rule : (default : ℕ) (h : Header) → is_default (role_of (reached cs) default) ≡ true → valid_header h ≡ true
-      → (r : Route) → (route_of (reached cs) default h ≡ Routed r) ↔ Right (reached cs) default h r
+      → (r : Route) → (route_of (reached cs) default h ≡ Ok r) ↔ Right (reached cs) default h r
   route_by_rule default h d v = route_says (reached cs) default h (reached_sound cs sent).in_range reached_well d v
 
--- ---- Document 02, 7/14: "Hold each connection's list with the table"
--- "After every call on a well-formed table, refused or not, the held lists are those that document 01's rule gives for the table then held" ..
+-- ---- "Hold each connection's list with the table"
+-- "After every call on a well-formed table, refused or not, the held lists are those that the rule gives for the table then held" ..
 module _ (t : Table) (sound : Sound t) (c : Call) (sent : Sent c) where
   abbrev after : Table
   after = (outcome_of t c).table

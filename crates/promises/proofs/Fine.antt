@@ -8,6 +8,7 @@ use Prim.Native.Nat.{ℕ, ◌+◌, ◌*◌, ◌/◌, ◌%◌, ◌<◌}
 use native.Mathlib.Omega.{arith}
 use lib.Dec.{eqb, leb}
 use lib.ListN.{length}
+use Rattle.std.specs.Prelude.{Option, Some, None, Result, Ok, Err}
 use Rattle.laws.specs.Says.{pick}
 use Rattle.laws.specs.Index.{tab}
 use Rattle.laws.specs.Lists.{All, every}
@@ -33,7 +34,8 @@ use Rattle.calls.specs.declared.reply.Answer.TheVariants.{Accept, Started, Close
 use Rattle.calls.specs.declared.reply.Reply.{Reply}
 use Rattle.calls.specs.declared.reply.Outcome.{Outcome}
 use Rattle.calls.specs.Reply.{cause_number, answered, rejected_with}
-use Rattle.calls.specs.Steps.{is_open, closed, started_view, opened_view, cut_view, dropped}
+use Rattle.calls.specs.Steps.{is_open, closed, dropped}
+use Rattle.table.specs.Changes.{started_view, opened_view, cut_view}
 use Rattle.calls.specs.Modify.{mismatch, modify_named, modify_of}
 use Rattle.calls.specs.Others.{available, activate_default_of, activate_named, activate_dedicated_of, deactivate_of, after_reject, reject_of, start_of}
 use Rattle.calls.specs.Changes.{Sound}
@@ -42,12 +44,14 @@ use Rattle.status.specs.Take.{gone_by, synchronise_of}
 use Rattle.messages.specs.declared.layout.Kind.{Kind}
 use Rattle.messages.specs.declared.layout.Kind.TheVariants.{DedicatedRequest, DedicatedAccept, DedicatedReject, ModifyRequest, ModifyAccept}
 use Rattle.messages.specs.declared.layout.Kind.TheVariants.{ModifyReject, DeactivateRequest, DeactivateAccept, ModificationReject}
-use Rattle.messages.specs.Read.{Octets, none, those, Said, unread, says}
+use Rattle.messages.specs.declared.layout.Fault.{Fault}
+use Rattle.messages.specs.Read.{Fields}
 use Rattle.messages.specs.Write.{value_of}
 use Rattle.messages.specs.Handle.{asked_by, accept_of, refusal_of, call_by, handled_by, handle_of}
 use Rattle.route.specs.declared.answer.Refusal.TheVariants.{NoDefault, InvalidHeader}
-use Rattle.route.specs.declared.answer.Answer.{Answer as RouteAnswer}
-use Rattle.route.specs.declared.answer.Answer.TheVariants.{Routed, Refused as route_refused}
+use Rattle.std.specs.Prelude.{Result, Ok, Err}
+use Rattle.route.specs.declared.answer.Route.{Route}
+use Rattle.route.specs.declared.answer.Refusal.{Refusal as RouteRefusal}
 use Rattle.route.specs.Routes.{route_on, route_of}
 use Rattle.promises.specs.Calls.{Call, activate_default, activate_dedicated, modify, deactivate, reject, start, synchronise, handle, Sent, Outcomes, outcomes, outcome_by, run_by, replies_by, outcome_of, run, replies}
 use Rattle.promises.proofs.Demand3.{call_sound}
@@ -72,12 +76,12 @@ built_list bs i l = tab_same nothing (held_at (table_of bs) (identity_of i)) (en
 
 -- ---- each call past its first test
 -- by the kind of a message; a reply is never asked
-abbrev fine_by : Kind → Octets → Table → ℕ → ℕ → Outcome
+abbrev fine_by : Kind → Option (List ℕ) → Table → ℕ → ℕ → Outcome
 fine_by (DedicatedRequest link) tft t bearer x = pick (mismatch t x) (rejected_with t bearer Transaction) (activate_named (closed t x) bearer link (value_of tft))
-fine_by ModifyRequest none t bearer x =
+fine_by ModifyRequest None t bearer x =
     pick (mismatch t x) (rejected_with t bearer Transaction)
     (pick (is_idle (role_of (closed t x) bearer)) (rejected_with (closed t x) bearer BearerIdentity) (answered (closed t x) (Accept bearer)))
-fine_by ModifyRequest (those value) t bearer x = pick (mismatch t x) (rejected_with t bearer Transaction) (modify_named (closed t x) bearer value)
+fine_by ModifyRequest (Some value) t bearer x = pick (mismatch t x) (rejected_with t bearer Transaction) (modify_named (closed t x) bearer value)
 fine_by (DeactivateRequest why) tft t bearer x = answered (dropped (closed t x) bearer) (Accept bearer)
 fine_by (ModificationReject why) tft t bearer x =
     pick (is_open t x) (answered (after_reject (eqb why (cause_number BearerIdentity)) t x) (Closed x)) (answered t (Refused NotOpen))
@@ -87,9 +91,9 @@ fine_by ModifyAccept tft t bearer x = answered t (Refused UnknownMessage)
 fine_by (ModifyReject why) tft t bearer x = answered t (Refused UnknownMessage)
 fine_by DeactivateAccept tft t bearer x = answered t (Refused UnknownMessage)
 
-abbrev fine_said : Said → Table → Outcome
-fine_said (unread fault) t = answered t (Refused (refusal_of fault))
-fine_said (says f) t = fine_by f.kind f.tft t f.bearer f.transaction
+abbrev fine_said : Result Fields Fault → Table → Outcome
+fine_said (Err fault) t = answered t (Refused (refusal_of fault))
+fine_said (Ok f) t = fine_by f.kind f.tft t f.bearer f.transaction
 
 abbrev pub fine_outcomes : Table → Outcomes
 fine_outcomes t =
@@ -115,11 +119,11 @@ made a b c d e f g h = record { default = a; dedicated = b; modified = c; deacti
 
 -- on a well-formed table that is what the eight functions give
 module _ (t : Table) (e : well_formed t ≡ true) where
-  kind_fine : (kind : Kind) (tft : Octets) (bearer x : ℕ) → call_by kind tft t bearer x ≡ fine_by kind tft t bearer x
+  kind_fine : (kind : Kind) (tft : Option (List ℕ)) (bearer x : ℕ) → call_by kind tft t bearer x ≡ fine_by kind tft t bearer x
   unfolding activate_dedicated_of modify_of deactivate_of reject_of accept_of
   kind_fine (DedicatedRequest link) tft bearer x = rw e
-  kind_fine ModifyRequest none bearer x = rw e
-  kind_fine ModifyRequest (those value) bearer x = rw e
+  kind_fine ModifyRequest None bearer x = rw e
+  kind_fine ModifyRequest (Some value) bearer x = rw e
   kind_fine (DeactivateRequest why) tft bearer x = rw e
   kind_fine (ModificationReject why) tft bearer x = rw e
   kind_fine DedicatedAccept tft bearer x = rw e
@@ -128,9 +132,9 @@ module _ (t : Table) (e : well_formed t ≡ true) where
   kind_fine (ModifyReject why) tft bearer x = rw e
   kind_fine DeactivateAccept tft bearer x = rw e
 
-  said_fine : (said : Said) → (handled_by said t).outcome ≡ fine_said said t
-  said_fine (unread fault) = rw e
-  said_fine (says f) = kind_fine f.kind f.tft f.bearer f.transaction
+  said_fine : (said : Result Fields Fault) → (handled_by said t).outcome ≡ fine_said said t
+  said_fine (Err fault) = rw e
+  said_fine (Ok f) = kind_fine f.kind f.tft f.bearer f.transaction
 
   abbrev was : Outcomes
   was = outcomes t
@@ -246,9 +250,9 @@ all_sent = every_all sent Sent one
     one (handle message) e = octets_say message e
 
 -- ---- a route on the connection of 5, past its first test, by the list that the rule gives
-abbrev pub fine_route : List Bearer → Header → RouteAnswer
+abbrev pub fine_route : List Bearer → Header → Result Route RouteRefusal
 fine_route bs h =
-    pick (is_default (role_of (table_of bs) 5)) (pick (valid_header h) (Routed (route_on (table_of bs) 5 h (tab (entry_at bs 5) precedence_count))) (route_refused InvalidHeader)) (route_refused NoDefault)
+    pick (is_default (role_of (table_of bs) 5)) (pick (valid_header h) (Ok (route_on (table_of bs) 5 h (tab (entry_at bs 5) precedence_count))) (Err InvalidHeader)) (Err NoDefault)
 
 pub fine_route_lem : (bs : List Bearer) → bearers_fine (table_of bs) ≡ true → (h : Header) → route_of (table_of bs) 5 h ≡ fine_route bs h
 unfolding route_of

@@ -1,7 +1,8 @@
--- Document 01's sample elements, those marked * and one more, and that of document 02's 4/14: a single list under a single claim about the written definitions,
+-- The sample elements, and one more with SCTP: a single list under a single claim about the written definitions,
 -- computed; and a sequence of calls with two routes, and ten routes of SCTP and its like, computed too. Of each sample the whole outcome is shown: reply,
 -- follow-up list, and all eleven bearers with their rows; of the sequence every reply, and the whole table after eight calls and at the end.
 -- Assumes nothing.
+use Rattle.std.specs.Prelude.{None, Option, Some}
 use mathlib.Core.Path.{◌≡◌, refl, ◌∙◌, ap, ap₂, fun_ext}
 use mathlib.Core.Logic.{◌↔◌}
 use mathlib.Core.Bool.{Bool, true, not, ◌&&◌}
@@ -16,13 +17,8 @@ use Rattle.laws.specs.Numbers.{same_under}
 use Rattle.laws.specs.Octets.{be_from}
 use Rattle.laws.proofs.Says.{says_not, says_it, says_all}
 use Rattle.filter.specs.declared.component.RemoteAddress.TheVariants.{Absent as no_address}
-use Rattle.filter.specs.declared.component.Protocol.{Protocol}
-use Rattle.filter.specs.declared.component.Protocol.TheVariants.{Absent as no_protocol, Is as is_protocol}
 use Rattle.filter.specs.declared.component.Port.{Port}
 use Rattle.filter.specs.declared.component.Port.TheVariants.{Absent as no_port, Is as is_port}
-use Rattle.filter.specs.declared.component.Index.TheVariants.{Absent as no_index}
-use Rattle.filter.specs.declared.component.Class.TheVariants.{Absent as no_class}
-use Rattle.filter.specs.declared.component.Label.TheVariants.{Absent as no_label}
 use Rattle.filter.specs.declared.component.Filter.{Filter}
 use Rattle.filter.specs.Build.{excluded, added, empty_filter}
 use Rattle.filter.specs.declared.packet.Header.{Header}
@@ -48,7 +44,8 @@ use Rattle.calls.specs.declared.reply.FollowUps.{FollowUps}
 use Rattle.calls.specs.declared.reply.Reply.{Reply}
 use Rattle.calls.specs.declared.reply.Outcome.{Outcome}
 use Rattle.calls.specs.Reply.{cause_number, refusal_number, follow_of}
-use Rattle.calls.specs.Steps.{opens_at, is_open, owner_of, closed, of_connection, is_at, dropped, deleted_in, holds_in, stays_in, empties}
+use Rattle.calls.specs.Steps.{is_open, owner_of, closed, dropped, holds_in, stays_in, empties}
+use Rattle.table.specs.Changes.{opens_at, of_connection, is_at, deleted_in}
 use Rattle.calls.specs.Lay.{old, taken_by, takes, conflict, placed, conflict_in, loses, placed_in, loses_at, conflict_on_default, follows, released, followers, other_at, only_connection, lay_within, lay_of}
 use Rattle.element.specs.Head.{head_fine}
 use Rattle.calls.specs.Modify.{deleted_filters, deleted_tft, modify_read, modify_named}
@@ -60,9 +57,9 @@ use Rattle.messages.specs.Read.{elements, activation_start, read_of}
 use Rattle.messages.specs.Handle.{request_of}
 use Rattle.route.specs.declared.answer.Route.{Route}
 use Rattle.route.specs.declared.answer.Route.TheVariants.{Bearer}
-use Rattle.route.specs.declared.answer.Answer.{Answer as RouteAnswer}
-use Rattle.route.specs.declared.answer.Answer.TheVariants.{Routed}
-use Rattle.route.specs.Routes.{filter_of, entry_fits, first_fit, uplink_at, has_uplink, otherwise_of, route_on, route_of}
+use Rattle.std.specs.Prelude.{Result, Ok}
+use Rattle.route.specs.declared.answer.Refusal.{Refusal as RouteRefusal}
+use Rattle.route.specs.Routes.{filter_of, entry_fits, first_fit, has_uplink, otherwise_of, route_on, route_of}
 use Rattle.route.specs.Rule.{OwnUplink, FittingBy, RightBy, by_filter, by_default, discarded}
 use Rattle.promises.specs.Calls.{Call, activate_default, activate_dedicated, modify, deactivate, reject, start, synchronise, handle, outcome_by, run_by, replies_by, outcome_of, replies, reached}
 use Rattle.promises.proofs.Demand3.{empty_sound}
@@ -97,7 +94,7 @@ abbrev second_alone : List Role
 second_alone = Idle ∷ Idle ∷ Default ∷ []
 
 -- precedence 10, with this protocol and these ports; direction 3, as octet 31 has it; every other component is absent
-abbrev over : Protocol → Port → Port → Filter
+abbrev over : Option ℕ → Port → Port → Filter
 over protocol local remote =
     record {
       precedence = 10;
@@ -106,14 +103,14 @@ over protocol local remote =
       protocol = protocol;
       local = local;
       remote = remote;
-      index = no_index;
-      class = no_class;
-      label = no_label;
+      index = None;
+      class = None;
+      label = None;
     }
 
 -- "precedence 10, UDP"
 abbrev udp : Port → Filter
-udp remote = over (is_protocol 17) no_port remote
+udp remote = over (Some 17) no_port remote
 
 abbrev sip : List ℕ
 sip = 0x21 ∷ 0x31 ∷ 0x0A ∷ 0x05 ∷ 0x30 ∷ 0x11 ∷ 0x50 ∷ 0x13 ∷ 0xC4 ∷ []
@@ -122,7 +119,7 @@ sip = 0x21 ∷ 0x31 ∷ 0x0A ∷ 0x05 ∷ 0x30 ∷ 0x11 ∷ 0x50 ∷ 0x13 ∷ 0x
 abbrev add : List ℕ
 add = 0x61 ∷ 0x31 ∷ 0x0A ∷ 0x02 ∷ 0x30 ∷ 0x11 ∷ []
 
--- ---- What is shown of an outcome, and that is all of it but for a reject's place, which is document 02's: the answer in document 01's numbers, the follow-up list, and the table
+-- ---- What is shown of an outcome, and that is all of it but for a reject's place: the answer in its numbers, the follow-up list, and the table
 pub data Said : Type 0 where
   accepts : (bearer : ℕ) → Said
   rejects : (bearer cause : ℕ) → Said
@@ -189,8 +186,8 @@ sample_elements =
     -- "`21 31 0A 05 30 01 50 13 C4` (ICMP with a port): 44." "`21 31 0A 05 41 00 02 00 01`: 44."
     ∷ keeps (with five_and_six) 6 (0x21 ∷ 0x31 ∷ 0x0A ∷ 0x05 ∷ 0x30 ∷ 0x01 ∷ 0x50 ∷ 0x13 ∷ 0xC4 ∷ []) (rejects 6 44)
     ∷ keeps (with five_and_six) 6 (0x21 ∷ 0x31 ∷ 0x0A ∷ 0x05 ∷ 0x41 ∷ 0x00 ∷ 0x02 ∷ 0x00 ∷ 0x01 ∷ []) (rejects 6 44)
-    -- document 02, 4/14: "`21 31 0A 05 30 84 50 13 C4` is accepted from now on."
-    ∷ gives (with five_and_six) 6 (0x21 ∷ 0x31 ∷ 0x0A ∷ 0x05 ∷ 0x30 ∷ 0x84 ∷ 0x50 ∷ 0x13 ∷ 0xC4 ∷ []) (accepts 6) [] (holding five_and_six 6 1 (over (is_protocol 132) no_port (is_port 5060)))
+    -- "`21 31 0A 05 30 84 50 13 C4` is accepted from now on."
+    ∷ gives (with five_and_six) 6 (0x21 ∷ 0x31 ∷ 0x0A ∷ 0x05 ∷ 0x30 ∷ 0x84 ∷ 0x50 ∷ 0x13 ∷ 0xC4 ∷ []) (accepts 6) [] (holding five_and_six 6 1 (over (Some 132) no_port (is_port 5060)))
     -- "`21 31 0A 02 31 11`: 45."
     ∷ keeps (with five_and_six) 6 (0x21 ∷ 0x31 ∷ 0x0A ∷ 0x02 ∷ 0x31 ∷ 0x11 ∷ []) (rejects 6 45)
     -- "Add of precedence 10 on 6 while dedicated 7 of that connection holds it: accept, 7 loses it, follow-up 7."
@@ -248,7 +245,7 @@ ending =
     -- "always accept with the received identity"; "a default takes its connection along", here 8
     ∷ turn (deactivate 6 0) (accepts 6) []
     ∷ turn (deactivate 5 0) (accepts 5) []
-    -- document 02: "12 for a value that isn't two octets"; 9 is shown inactive and goes with its transaction, and identities 0 to 4 are ignored
+    -- "12 for a value that isn't two octets"; 9 is shown inactive and goes with its transaction, and identities 0 to 4 are ignored
     ∷ turn (activate_default 9) (accepts 9) []
     ∷ turn (start 9 9) (starts 9) []
     ∷ turn (synchronise (0x80 ∷ [])) (refuses 12) []
@@ -275,28 +272,28 @@ Sequence =
     (map told (replies empty_table (map called turns)) ≡ map awaited turns)
     -- "After the first sample, header version 4, protocol 17, remote port 5060 routes to 6; 5061 to 5."
     × (sampled ≡ holding five_and_six 6 1 (udp (is_port 5060)))
-    × (route_of sampled 5 (packet 17 0 5060) ≡ Routed (Bearer 6))
-    × (route_of sampled 5 (packet 17 0 5061) ≡ Routed (Bearer 5))
+    × (route_of sampled 5 (packet 17 0 5060) ≡ Ok (Bearer 6))
+    × (route_of sampled 5 (packet 17 0 5061) ≡ Ok (Bearer 5))
     × (reached (map called turns) ≡ with second_alone)
 
 -- ---- Of SCTP: where 6 holds a filter with this protocol and both ports, local 2905 and remote 5060, the routes of packets with these ports: of TCP, UDP, SCTP,
 -- and UDP-Lite, which carries no ports here
-abbrev both_ports : Protocol → Table
+abbrev both_ports : Option ℕ → Table
 both_ports protocol = holding five_and_six 6 1 (over protocol (is_port 2905) (is_port 5060))
 
-abbrev routes_of : Protocol → List RouteAnswer
+abbrev routes_of : Option ℕ → List (Result Route RouteRefusal)
 routes_of protocol = map (λ (n : ℕ). route_of (both_ports protocol) 5 (packet n 2905 5060)) (6 ∷ 17 ∷ 132 ∷ 136 ∷ [])
 
-abbrev sent_on : List ℕ → List RouteAnswer
-sent_on bearers = map (λ (b : ℕ). Routed (Bearer b)) bearers
+abbrev sent_on : List ℕ → List (Result Route RouteRefusal)
+sent_on bearers = map (λ (b : ℕ). Ok (Bearer b)) bearers
 
 abbrev SctpRoutes : Type 0
 SctpRoutes =
-    (routes_of (is_protocol 132) ≡ sent_on (5 ∷ 5 ∷ 6 ∷ 5 ∷ []))
-    × (routes_of no_protocol ≡ sent_on (6 ∷ 6 ∷ 6 ∷ 5 ∷ []))
+    (routes_of (Some 132) ≡ sent_on (5 ∷ 5 ∷ 6 ∷ 5 ∷ []))
+    × (routes_of None ≡ sent_on (6 ∷ 6 ∷ 6 ∷ 5 ∷ []))
     -- each of the two ports counts
-    × (route_of (both_ports (is_protocol 132)) 5 (packet 132 2905 5061) ≡ Routed (Bearer 5))
-    × (route_of (both_ports (is_protocol 132)) 5 (packet 132 2906 5060) ≡ Routed (Bearer 5))
+    × (route_of (both_ports (Some 132)) 5 (packet 132 2905 5061) ≡ Ok (Bearer 5))
+    × (route_of (both_ports (Some 132)) 5 (packet 132 2906 5060) ≡ Ok (Bearer 5))
 
 -- ---- All are computed, by opening the definitions that they are said in, but for one thing: that a table is well formed is computed of its bearers alone, and of its
 -- lists a law says it. So the eight functions are computed past that test (`fine_outcomes`), in the same calls and sequences, and `Fine` says that on well-formed tables
@@ -334,21 +331,21 @@ abbrev sampled_table : Table
 sampled_table = holding five_and_six 6 1 (udp (is_port 5060))
 
 abbrev RoutesTo : Table → Header → ℕ → Type 0
-RoutesTo t h bearer = fine_route t.bearers h ≡ Routed (Bearer bearer)
+RoutesTo t h bearer = fine_route t.bearers h ≡ Ok (Bearer bearer)
 
-abbrev fine_routes : Protocol → List RouteAnswer
+abbrev fine_routes : Option ℕ → List (Result Route RouteRefusal)
 fine_routes protocol = map (λ (n : ℕ). fine_route (both_ports protocol).bearers (packet n 2905 5060)) (6 ∷ 17 ∷ 132 ∷ 136 ∷ [])
 
 routed : (bearers_fine sampled_table ≡ true)
-    × (bearers_fine (both_ports (is_protocol 132)) ≡ true)
-    × (bearers_fine (both_ports no_protocol) ≡ true)
+    × (bearers_fine (both_ports (Some 132)) ≡ true)
+    × (bearers_fine (both_ports None) ≡ true)
     × RoutesTo sampled_table (packet 17 0 5060) 6
     × RoutesTo sampled_table (packet 17 0 5061) 5
-    × (fine_routes (is_protocol 132) ≡ sent_on (5 ∷ 5 ∷ 6 ∷ 5 ∷ []))
-    × (fine_routes no_protocol ≡ sent_on (6 ∷ 6 ∷ 6 ∷ 5 ∷ []))
-    × RoutesTo (both_ports (is_protocol 132)) (packet 132 2905 5061) 5
-    × RoutesTo (both_ports (is_protocol 132)) (packet 132 2906 5060) 5
-unfolding all_below any_below last_below tab same_under held well_coded empty_place valid_header agrees_network fits sample fittable uplink place_has bearer_has entry_in entry_at filter_of entry_fits first_fit uplink_at has_uplink otherwise_of route_on filter_fine bearer_fine transactions_apart transaction_from distinct_transactions every is_in repeats joined row_precedences connection_precedences distinct_at distinct_precedences bearers_fine
+    × (fine_routes (Some 132) ≡ sent_on (5 ∷ 5 ∷ 6 ∷ 5 ∷ []))
+    × (fine_routes None ≡ sent_on (6 ∷ 6 ∷ 6 ∷ 5 ∷ []))
+    × RoutesTo (both_ports (Some 132)) (packet 132 2905 5061) 5
+    × RoutesTo (both_ports (Some 132)) (packet 132 2906 5060) 5
+unfolding all_below any_below last_below tab same_under held well_coded empty_place valid_header agrees_network fits sample fittable uplink place_has bearer_has entry_in entry_at filter_of entry_fits first_fit has_uplink otherwise_of route_on filter_fine bearer_fine transactions_apart transaction_from distinct_transactions every is_in repeats joined row_precedences connection_precedences distinct_at distinct_precedences bearers_fine
 routed = (refl, refl, refl, refl, refl, refl, refl, refl, refl)
 
 -- ---- so they are as claimed
@@ -369,24 +366,24 @@ sequence = (
 
 pub sctp_routes : SctpRoutes
 sctp_routes = (
-  alike (is_protocol 132) routed.1 ∙ routed.5,
-  alike no_protocol routed.2 ∙ routed.6,
-  fine_route_lem (both_ports (is_protocol 132)).bearers routed.1 (packet 132 2905 5061) ∙ routed.7,
-  fine_route_lem (both_ports (is_protocol 132)).bearers routed.1 (packet 132 2906 5060) ∙ routed.8,
+  alike (Some 132) routed.1 ∙ routed.5,
+  alike None routed.2 ∙ routed.6,
+  fine_route_lem (both_ports (Some 132)).bearers routed.1 (packet 132 2905 5061) ∙ routed.7,
+  fine_route_lem (both_ports (Some 132)).bearers routed.1 (packet 132 2906 5060) ∙ routed.8,
 )
   where
-    alike : (protocol : Protocol) → bearers_fine (both_ports protocol) ≡ true → routes_of protocol ≡ fine_routes protocol
-    alike protocol e = ap (λ (f : ℕ → RouteAnswer). map f (6 ∷ 17 ∷ 132 ∷ 136 ∷ [])) (fun_ext (λ (n : ℕ). fine_route_lem (both_ports protocol).bearers e (packet n 2905 5060)))
+    alike : (protocol : Option ℕ) → bearers_fine (both_ports protocol) ≡ true → routes_of protocol ≡ fine_routes protocol
+    alike protocol e = ap (λ (f : ℕ → Result Route RouteRefusal). map f (6 ∷ 17 ∷ 132 ∷ 136 ∷ [])) (fun_ext (λ (n : ℕ). fine_route_lem (both_ports protocol).bearers e (packet n 2905 5060)))
 
 -- ---- Before SCTP carried ports, the packet of SCTP that the filter without a protocol sends on 6 was right on 5, and nowhere else
 abbrev sctp_packet : Header
 sctp_packet = packet 132 2905 5060
 
 abbrev up_at : ℕ → ℕ → Bool
-up_at i j = is_uplink (filter_at (both_ports no_protocol) i j)
+up_at i j = is_uplink (filter_at (both_ports None) i j)
 
 abbrev fitted_at : ℕ → ℕ → Bool
-fitted_at i j = up_at i j && fits_before (filter_at (both_ports no_protocol) i j) sctp_packet
+fitted_at i j = up_at i j && fits_before (filter_at (both_ports None) i j) sctp_packet
 
 none_of_default : all_below (λ (j : ℕ). not (up_at 0 j)) place_count ≡ true
 unfolding all_below tab held uplink
@@ -396,18 +393,18 @@ none_fitted : all_below (λ (i : ℕ). all_below (λ (j : ℕ). not (fitted_at i
 unfolding all_below tab held uplink agrees_network
 none_fitted = refl
 
-pub sctp_route_before : (r : Route) → RightBy fits_before (both_ports no_protocol) 5 sctp_packet r ↔ (r ≡ Bearer 5)
+pub sctp_route_before : (r : Route) → RightBy fits_before (both_ports None) 5 sctp_packet r ↔ (r ≡ Bearer 5)
 sctp_route_before r = (to, by_default none own)
   where
-    none : (i j : ℕ) → FittingBy fits_before (both_ports no_protocol) 5 sctp_packet i j → ⊥
+    none : (i j : ℕ) → FittingBy fits_before (both_ports None) 5 sctp_packet i j → ⊥
     none i j g =
         (says_all bearer_count (λ k l. says_all place_count (λ m n. says_not (says_it (fitted_at k m))))).to none_fitted i g.uplink.bearer j g.uplink.place
         (rw g.uplink.up g.fit)
 
-    own : (j : ℕ) → OwnUplink (both_ports no_protocol) 5 j → ⊥
+    own : (j : ℕ) → OwnUplink (both_ports None) 5 j → ⊥
     own j o = (says_all place_count (λ m n. says_not (says_it (up_at 0 m)))).to none_of_default j o.0 o.1
 
-    to : RightBy fits_before (both_ports no_protocol) 5 sctp_packet r → r ≡ Bearer 5
+    to : RightBy fits_before (both_ports None) 5 sctp_packet r → r ≡ Bearer 5
     to (by_filter i j l e) = absurd (none i j l.fitting)
     to (by_default empty bare e) = e
     to (discarded empty j o e) = absurd (own j o)

@@ -1,5 +1,5 @@
--- The calls on a table, as values, and a sequence of them: document 01's six, the taking of a status and the handling of a message (document 02, 1/14 and 5/14). The numbers that may be given.
-use Rattle.std.specs.Prelude.{ℕ, ◌^◌, ◌<◌, not, ◌&&◌, List, [], ◌∷◌}
+-- The calls on a table, as values, and a sequence of them: the six, the taking of a status and the handling of a message. The numbers that may be given.
+use Rattle.std.specs.Prelude.{ℕ, ◌^◌, ◌<◌, not, ◌&&◌, List, [], ◌∷◌, Result, Ok, Err}
 use Rattle.laws.specs.Says.{pick}
 use Rattle.laws.specs.Lists.{All}
 use Rattle.element.specs.Meaning.{Octet}
@@ -16,7 +16,8 @@ use Rattle.status.specs.Take.{synchronise_of}
 use Rattle.messages.specs.declared.layout.Kind.{Kind}
 use Rattle.messages.specs.declared.layout.Kind.TheVariants.{DedicatedRequest, DedicatedAccept, DedicatedReject, ModifyRequest, ModifyAccept}
 use Rattle.messages.specs.declared.layout.Kind.TheVariants.{ModifyReject, DeactivateRequest, DeactivateAccept, ModificationReject}
-use Rattle.messages.specs.Read.{Said, unread, says}
+use Rattle.messages.specs.declared.layout.Fault.{Fault}
+use Rattle.messages.specs.Read.{Fields}
 use Rattle.messages.specs.Handle.{asked_by, handle_of}
 
 -- a call, with any arguments
@@ -100,7 +101,7 @@ Sent (start transaction bearer) = transaction < 2 ^ 8
 Sent (synchronise value) = Unit {0}
 Sent (handle message) = All Octet message
 
--- "Numbers given", and 12 to 16 of document 02: of these, those that a message may give; 0 where nothing is refused
+-- "Numbers given", and 12 to 16: of these, those that a message may give; 0 where nothing is refused
 abbrev pub message_numbers : List ℕ
 message_numbers = 0 ∷ 1 ∷ 41 ∷ 42 ∷ 43 ∷ 44 ∷ 45 ∷ 47 ∷ []
 
@@ -131,7 +132,7 @@ route_numbers = 0 ∷ 1 ∷ 8 ∷ 2 ∷ []
 abbrev pub status_numbers : List ℕ
 status_numbers = 0 ∷ 1 ∷ 9 ∷ []
 
--- .. and, of document 02's 2/14, an announcement, a portion and a finish
+-- .. and an announcement, a portion and a finish
 abbrev pub portion_numbers : PortionCall → List ℕ
 portion_numbers (announce n) = 0 ∷ 42 ∷ []
 portion_numbers (feed portion) = 0 ∷ 13 ∷ []
@@ -160,9 +161,9 @@ left_by_kind ModifyAccept t transaction = t
 left_by_kind (ModifyReject why) t transaction = t
 left_by_kind DeactivateAccept t transaction = t
 
-abbrev pub left_by_said : Said → Table → Table
-left_by_said (unread fault) t = t
-left_by_said (says f) t = left_by_kind f.kind t f.transaction
+abbrev pub left_by_said : Result Fields Fault → Table → Table
+left_by_said (Err fault) t = t
+left_by_said (Ok f) t = left_by_kind f.kind t f.transaction
 
 abbrev pub left_by : Table → Call → Table
 left_by t (activate_default bearer) = t

@@ -1,4 +1,4 @@
--- The two messages that bring an element: a modify, and a dedicated activation, which document 01 describes by the modify: "as above, but ..".
+-- The two messages that bring an element: a modify, and a dedicated activation, which is described by the modify: "as above, but ..".
 use Rattle.std.specs.Prelude.{ℕ, List}
 use Rattle.table.specs.declared.bearer.Role.{Role}
 use Rattle.table.specs.declared.bearer.Role.TheVariants.{Dedicated}
@@ -63,7 +63,7 @@ EmptiedIn t (activates bearer link transaction value) = ⊥
 abbrev pub Passes : Table → Message → Type 0
 Passes t m = Passed t (transaction_of m) (value_of m) (NamedIn t m) (AllowedIn t m)
 
--- each of its numbers is given exactly where document 01 gives it
+-- each of its numbers is given exactly where its step gives it
 abbrev pub MessageNumbered : Table → Message → ℕ → Type 0
 MessageNumbered t m = Numbered t (transaction_of m) (value_of m) (NamedIn t m) (AllowedIn t m) (EmptiedIn t m)
 
