@@ -1,133 +1,147 @@
-// A filter's line, and a row's lines.
-use crate::dotted::put_dotted;
-use crate::text::{put, put_end, put_hex_64, put_named, put_number, put_text, wide};
-use filter::coding::empty_place;
-use filter::component::PLACES;
-use filter::{Address, Class, Filter, Index, Label, Port, Protocol, RemoteAddress};
-use std::io::Write;
+// A filter built from the words of a line, and its line.
+use crate::error::BadLine;
+use crate::words::{ADDRESS_OCTETS, Place, Words, decode, sixteen};
+use filter::component::{
+    CLASS, INDEX, IPV4_REMOTE, IPV6_REMOTE, LABEL, LOCAL_PORT, LOCAL_RANGE, PLACES, PROTOCOL,
+    REMOTE_PORT, REMOTE_RANGE,
+};
+use filter::{Class, Filter, Port, RemoteAddress};
+use std::fmt;
+use std::net::Ipv4Addr;
 
-fn put_ipv6<W: Write>(out: &mut W, address: Address) {
-    put_hex_64(out, address.high);
-    put_hex_64(out, address.low);
+// An IPv6 address and its mask.
+const LONGEST_COMPONENT: usize = 2 * ADDRESS_OCTETS;
+
+// A filter, and the place that it is to have.
+#[derive(Clone, Copy)]
+pub struct Placed {
+    pub place: Place,
+    pub filter: Filter,
 }
 
-fn put_ipv4_remote<W: Write>(out: &mut W, address: u32, mask: u32) {
-    put_text(out, b" remote4 ");
-    put_dotted(out, address);
-    put(out, b'/');
-    put_dotted(out, mask);
-}
-
-fn put_ipv6_remote<W: Write>(out: &mut W, address: Address, mask: Address) {
-    put_text(out, b" remote6 ");
-    put_ipv6(out, address);
-    put(out, b'/');
-    put_ipv6(out, mask);
-}
-
-fn put_remote<W: Write>(out: &mut W, address: RemoteAddress) {
-    match address {
-        RemoteAddress::Absent => {}
-        RemoteAddress::V4 { address, mask } => put_ipv4_remote(out, address, mask),
-        RemoteAddress::V6 { address, mask } => put_ipv6_remote(out, address, mask),
-    }
-}
-
-fn put_protocol<W: Write>(out: &mut W, protocol: Protocol) {
-    match protocol {
-        Protocol::Absent => {}
-        Protocol::Is(n) => put_named(out, b" protocol", n as u64),
-    }
-}
-
-// The name of one port is `one`, that of a range `range`.
-fn put_port<W: Write>(out: &mut W, one: &[u8], range: &[u8], port: Port) {
-    match port {
-        Port::Absent => {}
-        Port::Is(n) => put_named(out, one, n as u64),
-        Port::Range { low, high } => {
-            put_named(out, range, low as u64);
-            put(out, b'-');
-            put_number(out, high as u64);
+impl Placed {
+    pub(crate) fn read(words: &mut Words<'_>) -> Result<Placed, BadLine> {
+        let place = words.at_most()?;
+        let mut filter = Filter::bare(words.number()?, words.number()?);
+        let mut octets = [0; LONGEST_COMPONENT];
+        while let Some(word) = words.next() {
+            let component = component_type(word)?;
+            filter = with_component(filter, component, words.hex(&mut octets)?)?;
         }
+        Ok(Placed { place, filter })
     }
 }
 
-fn put_index<W: Write>(out: &mut W, index: Index) {
-    match index {
-        Index::Absent => {}
-        Index::Is(n) => put_named(out, b" index", n as u64),
+fn component_type(word: &[u8]) -> Result<u8, BadLine> {
+    match decode(word, &mut [0])? {
+        &[component] => Ok(component),
+        _ => Err(BadLine),
     }
 }
 
-fn put_class<W: Write>(out: &mut W, class: Class) {
-    match class {
-        Class::Absent => {}
-        Class::Masked { class, mask } => {
-            put_named(out, b" class", class as u64);
-            put(out, b'/');
-            put_number(out, mask as u64);
+// The filter with a component more, or as it was where it cannot have that.
+fn with_component(filter: Filter, component: u8, octets: &[u8]) -> Result<Filter, BadLine> {
+    Ok(match (component, octets) {
+        (IPV4_REMOTE, &[a, b, c, d, e, f, g, h]) => filter.with_ipv4_remote(
+            u32::from_be_bytes([a, b, c, d]),
+            u32::from_be_bytes([e, f, g, h]),
+        ),
+        (IPV6_REMOTE, octets) => {
+            let (address, mask) = octets.split_at_checked(ADDRESS_OCTETS).ok_or(BadLine)?;
+            filter.with_ipv6_remote(sixteen(address)?, sixteen(mask)?)
         }
-    }
-}
-
-fn put_label<W: Write>(out: &mut W, label: Label) {
-    match label {
-        Label::Absent => {}
-        Label::Is(n) => put_named(out, b" label", n as u64),
-    }
-}
-
-fn put_ends<W: Write>(out: &mut W, f: Filter) {
-    let address = f.address;
-    let protocol = f.protocol;
-    let local = f.local;
-    let remote = f.remote;
-    put_remote(out, address);
-    put_protocol(out, protocol);
-    put_port(out, b" local-port", b" local-range", local);
-    put_port(out, b" remote-port", b" remote-range", remote);
-}
-
-fn put_rest<W: Write>(out: &mut W, f: Filter) {
-    let index = f.index;
-    let class = f.class;
-    let label = f.label;
-    put_index(out, index);
-    put_class(out, class);
-    put_label(out, label);
+        (PROTOCOL, &[protocol]) => filter.with_protocol(protocol),
+        (LOCAL_PORT, &[a, b]) => filter.with_local_port(u16::from_be_bytes([a, b])),
+        (LOCAL_RANGE, &[a, b, c, d]) => {
+            filter.with_local_range(u16::from_be_bytes([a, b]), u16::from_be_bytes([c, d]))
+        }
+        (REMOTE_PORT, &[a, b]) => filter.with_remote_port(u16::from_be_bytes([a, b])),
+        (REMOTE_RANGE, &[a, b, c, d]) => {
+            filter.with_remote_range(u16::from_be_bytes([a, b]), u16::from_be_bytes([c, d]))
+        }
+        (INDEX, &[a, b, c, d]) => filter.with_index(u32::from_be_bytes([a, b, c, d])),
+        (CLASS, &[class, mask]) => filter.with_class(class, mask),
+        (LABEL, &[a, b, c, d]) => filter.with_label(u32::from_be_bytes([a, b, c, d])),
+        _ => return Err(BadLine),
+    })
 }
 
 // The line of the filter at a place, without its indent; its components stand in rising type.
-pub fn put_filter<W: Write>(out: &mut W, place: usize, f: Filter) {
-    put_named(out, b"filter", place as u64);
-    put_named(out, b" precedence", wide(f.precedence));
-    put_named(out, b" direction", wide(f.direction));
-    put_ends(out, f);
-    put_rest(out, f);
-    put_end(out);
+#[derive(Clone, Copy)]
+pub struct FilterLine<'a> {
+    pub place: usize,
+    pub filter: &'a Filter,
 }
 
-fn put_place<W: Write>(out: &mut W, place: usize, f: Filter) {
-    if empty_place(f) {
-        return;
+impl fmt::Display for FilterLine<'_> {
+    fn fmt<W: fmt::Write>(&self, f: &mut fmt::Formatter<W>) -> fmt::Result {
+        let FilterLine { place, filter } = *self;
+        let Filter {
+            precedence,
+            direction,
+            ..
+        } = *filter;
+        write!(
+            f,
+            "filter {place} precedence {precedence} direction {direction}"
+        )?;
+        write_remote(f, filter.address)?;
+        if let Some(protocol) = filter.protocol {
+            write!(f, " protocol {protocol}")?;
+        }
+        write_port(f, "local", filter.local)?;
+        write_port(f, "remote", filter.remote)?;
+        if let Some(index) = filter.index {
+            write!(f, " index {index}")?;
+        }
+        if let Some(Class { class, mask }) = filter.class {
+            write!(f, " class {class}/{mask}")?;
+        }
+        if let Some(label) = filter.label {
+            write!(f, " label {label}")?;
+        }
+        Ok(())
     }
-    put_text(out, b"  ");
-    put_filter(out, place, f);
 }
 
-pub fn put_row<W: Write>(out: &mut W, row: [Filter; PLACES]) {
-    for i in 0..PLACES {
-        let f = row[i];
-        put_place(out, i, f);
+fn write_remote<W: fmt::Write>(f: &mut fmt::Formatter<W>, address: RemoteAddress) -> fmt::Result {
+    match address {
+        RemoteAddress::Absent => Ok(()),
+        RemoteAddress::V4 { address, mask } => {
+            write!(
+                f,
+                " remote4 {}/{}",
+                Ipv4Addr::from(address),
+                Ipv4Addr::from(mask)
+            )
+        }
+        RemoteAddress::V6 { address, mask } => write!(
+            f,
+            " remote6 {:016X}{:016X}/{:016X}{:016X}",
+            address.high, address.low, mask.high, mask.low
+        ),
     }
 }
 
-pub fn row_empty(row: [Filter; PLACES]) -> bool {
-    let mut all = true;
-    for i in 0..PLACES {
-        let f = row[i];
-        all = all & empty_place(f);
+fn write_port<W: fmt::Write>(f: &mut fmt::Formatter<W>, side: &str, port: Port) -> fmt::Result {
+    match port {
+        Port::Absent => Ok(()),
+        Port::Is(port) => write!(f, " {side}-port {port}"),
+        Port::Range { low, high } => write!(f, " {side}-range {low}-{high}"),
     }
-    all
+}
+
+// A line for each filter of a row, in rising identifier.
+#[derive(Clone, Copy)]
+pub struct Row<'a>(pub &'a [Filter; PLACES]);
+
+impl fmt::Display for Row<'_> {
+    fn fmt<W: fmt::Write>(&self, f: &mut fmt::Formatter<W>) -> fmt::Result {
+        for (place, filter) in self.0.iter().enumerate() {
+            if !filter.empty_place() {
+                writeln!(f, "  {}", FilterLine { place, filter })?;
+            }
+        }
+        Ok(())
+    }
 }

@@ -1,17 +1,10 @@
 #![tactic(auto)]
-// Lines of the bench language taken apart, and its replies put into text; a table is not known here.
-// The functions have no contract: each is proved to end without a fault, and nothing else is claimed.
-mod build;
+// The bench language: lines read and taken apart, and filters and elements put into text. Of the table only roles and identities are known here.
+// Each function is proved to end without a fault, and the words of kinds have contracts; nothing else is claimed.
 pub mod command;
-mod dotted;
 pub mod elements;
-pub mod esm;
+pub mod error;
 pub mod filters;
-mod input;
 pub mod kinds;
-pub mod parse;
-mod portions;
-pub mod reader;
-pub mod scan;
-pub mod text;
-mod words;
+pub mod lines;
+pub mod words;

@@ -1,76 +1,73 @@
 // A table's lines, and those of its held lists.
+use filter::Filter;
 use filter::component::PRECEDENCES;
-use script::filters::{put_row, row_empty};
-use script::scan::part;
-use script::text::{put_end, put_line, put_named, put_text, wide};
-use std::io::Write;
-use table::bearer::{BEARERS, FIRST_IDENTITY, index_of, is_idle};
+use script::filters::Row;
+use script::kinds::RoleKind;
+use std::fmt;
+use std::ops::RangeInclusive;
+use table::bearer::{BEARERS, FIRST_IDENTITY, LAST_IDENTITY, index_of};
 use table::list::decoded;
-use table::{Bearer, Entry, Role, Table};
+use table::{Bearer, Role, Table};
 
-fn put_role<W: Write>(out: &mut W, role: Role) {
-    match role {
-        Role::Idle => put_text(out, b" idle"),
-        Role::Default => put_text(out, b" default"),
-        Role::Dedicated(link) => put_named(out, b" dedicated", link as u64),
-    }
+pub(crate) fn identities() -> RangeInclusive<u8> {
+    FIRST_IDENTITY..=LAST_IDENTITY
 }
 
-fn put_head<W: Write>(out: &mut W, i: usize, role: Role, transaction: u8) {
-    put_named(out, b"bearer", identity(i));
-    put_role(out, role);
-    put_named(out, b" transaction", wide(transaction));
-    put_end(out);
+// Which bearers are active, the one with the first identity first.
+pub(crate) fn active(table: &Table) -> [bool; BEARERS] {
+    let mut found = [false; BEARERS];
+    for (is_active, bearer) in found.iter_mut().zip(&table.bearers) {
+        *is_active = !bearer.role.is_idle();
+    }
+    found
 }
 
 // An idle bearer that holds nothing has no line.
-fn put_bearer<W: Write>(out: &mut W, i: usize, b: Bearer) {
-    let role = b.role;
-    let row = b.row;
-    if is_idle(role) & (b.transaction == 0) & row_empty(row) {
-        return;
-    }
-    put_head(out, i, role, b.transaction);
-    put_row(out, row);
+fn is_bare(bearer: &Bearer) -> bool {
+    bearer.role.is_idle() && bearer.transaction == 0 && bearer.row.iter().all(Filter::empty_place)
 }
 
-// The identity of the bearer at an index.
-fn identity(i: usize) -> u64 {
-    (i % BEARERS) as u64 + FIRST_IDENTITY as u64
-}
+#[derive(Clone, Copy)]
+pub(crate) struct TableLines<'a>(pub(crate) &'a Table);
 
-pub(crate) fn put_table<W: Write>(out: &mut W, t: Table) {
-    for i in 0..BEARERS {
-        let b = t.bearers[i];
-        put_bearer(out, i, b);
+impl fmt::Display for TableLines<'_> {
+    fn fmt<W: fmt::Write>(&self, f: &mut fmt::Formatter<W>) -> fmt::Result {
+        let table = self.0;
+        for (identity, bearer) in identities().zip(&table.bearers) {
+            if !is_bare(bearer) {
+                write!(f, "bearer {identity} ")?;
+                match bearer.role {
+                    Role::Idle => write!(f, "{}", RoleKind::Idle)?,
+                    Role::Default => write!(f, "{}", RoleKind::Default)?,
+                    Role::Dedicated(link) => write!(f, "{} {link}", RoleKind::Dedicated)?,
+                }
+                writeln!(f, " transaction {}", bearer.transaction)?;
+                write!(f, "{}", Row(&bearer.row))?;
+            }
+        }
+        writeln!(f, "end")
     }
-    put_line(out, b"end");
 }
 
 // An entry that names nothing has no line.
-fn put_entry<W: Write>(out: &mut W, position: usize, entry: Entry) {
-    if entry.bearer == 0 {
-        return;
-    }
-    put_named(out, b"position", position as u64);
-    put_named(out, b" bearer", wide(entry.bearer));
-    put_named(out, b" identifier", wide(entry.place));
-    put_end(out);
+#[derive(Clone, Copy)]
+pub(crate) struct ListLines<'a> {
+    pub(crate) table: &'a Table,
+    pub(crate) identity: u8,
 }
 
-// The list is lent as a slice: of a table that a loop indexes a copy is made at every turn.
-fn put_entries<W: Write>(out: &mut W, cells: &[u8]) {
-    let mut p = 0;
-    while p < cells.len() {
-        put_entry(out, p, decoded(cells[p]));
-        p += 1;
+impl fmt::Display for ListLines<'_> {
+    fn fmt<W: fmt::Write>(&self, f: &mut fmt::Formatter<W>) -> fmt::Result {
+        let table = self.table;
+        if let Some(list) = table.lists.chunks(PRECEDENCES).nth(index_of(self.identity)) {
+            for (position, cell) in list.iter().enumerate() {
+                let entry = decoded(*cell);
+                if entry.bearer != 0 {
+                    let (bearer, place) = (entry.bearer, entry.place);
+                    writeln!(f, "position {position} bearer {bearer} identifier {place}")?;
+                }
+            }
+        }
+        writeln!(f, "end")
     }
-}
-
-// The held list of a bearer's identity; a line that names another was bad.
-pub(crate) fn put_list<W: Write>(out: &mut W, t: Table, identity: u8) {
-    let lists = t.lists;
-    let from = index_of(identity) % BEARERS * PRECEDENCES;
-    put_entries(out, part(&lists, from, from + PRECEDENCES));
-    put_line(out, b"end");
 }
