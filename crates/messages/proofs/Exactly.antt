@@ -30,8 +30,7 @@ use Rattle.messages.specs.declared.layout.Message.{Message}
 use Rattle.messages.specs.declared.layout.Fault.TheVariants.{Unknown, Framing}
 use Rattle.messages.specs.declared.listed.Form.{Form}
 use Rattle.messages.specs.declared.listed.Form.TheVariants.{Half, Two, Tlv, TlvE, Template}
-use Rattle.messages.specs.declared.listed.Listed.{Listed}
-use Rattle.messages.specs.Layout.{head_octets, tft_identifier, row_of, type_of, carried, kinds_with, kind_of}
+use Rattle.messages.specs.Layout.{Listed, head_octets, tft_identifier, row_of, type_of, carried, kinds_with, kind_of}
 use Rattle.messages.specs.Layout.{is_of, framing, form_in, optional}
 use Rattle.messages.specs.Read.{◌>>=◌, tail_of, elements, read_elements, read_of, parsed_number, octets_at, Fields, said_by, said_of}
 use Rattle.messages.specs.Handle.{reply_types, handle_of}
@@ -47,7 +46,7 @@ proper_as Template identifier = eqb identifier tft_identifier
 proper_as _ identifier = true
 
 abbrev properly : Listed → Bool
-properly l = proper_as l.0 l.1
+properly l = proper_as l.form l.identifier
 
 kind_properly : (kind : Kind) → every properly (optional kind) ≡ true
 unfolding every
@@ -63,7 +62,7 @@ kind_properly (ModificationReject why) = refl
 
 module _ (x : ℕ) where
   template_here : (l : Listed) → properly l ≡ true → is_of l x ≡ true → framing l ≡ Template → x ≡ tft_identifier
-  template_here l h i e = eqb-true x l.1 (rw e at i) ∙ eqb-true l.1 tft_identifier (rw e at h)
+  template_here l h i e = eqb-true x l.identifier (rw e at i) ∙ eqb-true l.identifier tft_identifier (rw e at h)
 
   template_at : (listed : List Listed) → every properly listed ≡ true → form_in listed x ≡ Some Template → x ≡ tft_identifier
   unfolding every form_in

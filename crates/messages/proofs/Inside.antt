@@ -23,8 +23,7 @@ use Rattle.messages.specs.declared.layout.Fault.TheVariants.{Unknown, Framing}
 use Rattle.messages.specs.declared.layout.Message.{Message}
 use Rattle.messages.specs.declared.listed.Form.{Form}
 use Rattle.messages.specs.declared.listed.Form.TheVariants.{Half, Two, Tlv, TlvE, Template}
-use Rattle.messages.specs.declared.listed.Listed.{Listed}
-use Rattle.messages.specs.Layout.{discriminator, head_octets, row_of, kind_of, form_in, optional}
+use Rattle.messages.specs.Layout.{Listed, discriminator, head_octets, row_of, kind_of, form_in, optional}
 use Rattle.messages.specs.Read.{part, reached, ◌>>=◌, tail_of, is_barred, with_element, elements, activation_start, start_by, read_elements, read_from, read_named, read_of}
 use Rattle.messages.specs.Inner.Walk.{end_of, Inside}
 use Rattle.messages.proofs.Turns.{read_ours}

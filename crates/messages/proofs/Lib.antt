@@ -1,4 +1,3 @@
-pub mod Listing
 pub mod Turns
 pub mod Inside
 pub mod Accepting

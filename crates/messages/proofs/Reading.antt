@@ -26,8 +26,7 @@ use Rattle.messages.specs.declared.layout.Carries.TheVariants.{Always, Maybe, Ne
 use Rattle.messages.specs.declared.layout.Message.{Message}
 use Rattle.messages.specs.declared.listed.Form.{Form}
 use Rattle.messages.specs.declared.listed.Form.TheVariants.{Half, Two, Tlv, TlvE, Template}
-use Rattle.messages.specs.declared.listed.Listed.{Listed}
-use Rattle.messages.specs.Layout.{row_of, type_of, carried, kinds_with, named_in, kind_of, is_of, framing, form_in, optional}
+use Rattle.messages.specs.Layout.{Listed, row_of, type_of, carried, kinds_with, named_in, kind_of, is_of, framing, form_in, optional}
 use Rattle.messages.specs.Read.{with_element, read_of, octets_at, Fields, said_by, said_of}
 use Rattle.messages.specs.Write.{largest_identity, carried_fine, tft_fine, longest_tft}
 use Rattle.messages.proofs.Inside.{parts, before_of, part_starts, elements_hold, octet_at}

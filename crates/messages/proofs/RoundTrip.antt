@@ -24,8 +24,7 @@ use Rattle.messages.specs.declared.layout.Mandatory.{Mandatory}
 use Rattle.messages.specs.declared.layout.Mandatory.TheVariants.{Nothing, Cause, Activation}
 use Rattle.messages.specs.declared.layout.Carries.{Carries}
 use Rattle.messages.specs.declared.layout.Carries.TheVariants.{Always, Maybe, Never}
-use Rattle.messages.specs.declared.listed.Listed.{Listed}
-use Rattle.messages.specs.Layout.{discriminator, row_of, carried, type_of, kind_of, form_in, modify_request_lists}
+use Rattle.messages.specs.Layout.{Listed, discriminator, row_of, carried, type_of, kind_of, form_in, modify_request_lists}
 use Rattle.messages.specs.Read.{part, elements, activation_start, read_named, read_of, Fields, said_by, said_of}
 use Rattle.messages.specs.declared.write.MessageUnwritten.TheVariants.{Unreadable, NoRoom}
 use Rattle.messages.specs.Write.{head_of, largest_identity, longest_tft, carried_fine, tft_fine, writable, value_of, body_of, front_of, octets_of, message_number, MessageOutcome}

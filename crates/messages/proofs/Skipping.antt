@@ -21,8 +21,7 @@ use Rattle.messages.specs.declared.layout.Mandatory.{Mandatory}
 use Rattle.messages.specs.declared.layout.Mandatory.TheVariants.{Nothing, Cause, Activation}
 use Rattle.messages.specs.declared.listed.Form.{Form}
 use Rattle.messages.specs.declared.listed.Form.TheVariants.{Half, Two, Tlv, TlvE, Template}
-use Rattle.messages.specs.declared.listed.Listed.{Listed}
-use Rattle.messages.specs.Layout.{head_octets, discriminator, row_of, kind_of, form_in, optional}
+use Rattle.messages.specs.Layout.{Listed, head_octets, discriminator, row_of, kind_of, form_in, optional}
 use Rattle.messages.specs.Read.{reached, ◌>>=◌, tail_of, is_barred, with_element, elements, activation_start, start_by, octets_at, read_elements, read_of, Fields, said_by, said_of}
 use Rattle.messages.specs.Handle.{reply_types, request_of, asked_by, handled_by, handle_of}
 use Rattle.messages.specs.Meaning.{Whole, Skipped}

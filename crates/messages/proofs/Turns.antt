@@ -24,8 +24,7 @@ use Rattle.messages.specs.declared.read.Reached.{Reached}
 use Rattle.messages.specs.declared.layout.Mandatory.{Mandatory}
 use Rattle.messages.specs.declared.layout.Mandatory.TheVariants.{Nothing, Cause, Activation}
 use Rattle.messages.specs.declared.listed.Form.{Form}
-use Rattle.messages.specs.declared.listed.Listed.{Listed}
-use Rattle.messages.specs.Layout.{discriminator, head_octets, kind_of, form_in, optional}
+use Rattle.messages.specs.Layout.{Listed, discriminator, head_octets, kind_of, form_in, optional}
 use Rattle.messages.specs.Read.{reached, ◌>>=◌, tail_of, is_barred, with_element, elements, read_named, read_of}
 use Rattle.messages.specs.Write.{body_of, head_of}
 use Rattle.messages.specs.Handle.{reply_types, request_of, message_of}

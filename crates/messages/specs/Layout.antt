@@ -8,7 +8,6 @@ use Rattle.messages.specs.declared.layout.Mandatory.{Mandatory}
 use Rattle.messages.specs.declared.layout.Mandatory.TheVariants.{Nothing, Cause, Activation}
 use Rattle.messages.specs.declared.layout.Carries.{Carries}
 use Rattle.messages.specs.declared.layout.Carries.TheVariants.{Always, Maybe, Never}
-use Rattle.messages.specs.declared.listed.Listed.{Listed}
 use Rattle.messages.specs.declared.listed.Form.{Form}
 use Rattle.messages.specs.declared.listed.Form.TheVariants.{Half, Two, Tlv, TlvE, Template}
 
@@ -20,26 +19,30 @@ discriminator = 2
 abbrev pub head_octets : ℕ
 head_octets = 3
 
--- ---- An optional element that a message lists: its identifier (of a half-octet element, the upper half of its octet), and how it is framed
+-- ---- An optional element that a message lists: how it is framed, and its identifier (of a half-octet element, the upper half of its octet)
+pub record Listed : Type 0 where
+  pub form : Form
+  pub identifier : ℕ
+
 -- identifier, length, value
 abbrev pub tlv : ℕ → Listed
-tlv identifier = record { 0 = Tlv; 1 = identifier }
+tlv identifier = record { form = Tlv; identifier = identifier }
 
 -- identifier, two length octets, value
 abbrev pub tlv_e : ℕ → Listed
-tlv_e identifier = record { 0 = TlvE; 1 = identifier }
+tlv_e identifier = record { form = TlvE; identifier = identifier }
 
 -- identifier, one octet
 abbrev pub two : ℕ → Listed
-two identifier = record { 0 = Two; 1 = identifier }
+two identifier = record { form = Two; identifier = identifier }
 
 -- identifier in the upper half, value in the lower
 abbrev pub half : ℕ → Listed
-half identifier = record { 0 = Half; 1 = identifier }
+half identifier = record { form = Half; identifier = identifier }
 
 -- the TFT: identifier, length, value
 abbrev pub template : ℕ → Listed
-template identifier = record { 0 = Template; 1 = identifier }
+template identifier = record { form = Template; identifier = identifier }
 
 -- ---- A message's row: its type, what stands between the type and the optional elements, whether it has a TFT, and what it lists
 -- (that a row with Activation, or that lists a template, has a TFT, and no other: the theorem `write_numbers`)
@@ -124,10 +127,10 @@ begins_with Half identifier x = eqb (x / 16) identifier
 begins_with _ identifier x = eqb x identifier
 
 abbrev pub is_of : Listed → ℕ → Bool
-is_of l x = begins_with l.0 l.1 x
+is_of l x = begins_with l.form l.identifier x
 
 abbrev pub framing : Listed → Form
-framing l = l.0
+framing l = l.form
 
 unfoldable pub form_in : List Listed → ℕ → Option Form
 form_in [] x = None

@@ -11,8 +11,7 @@ use Rattle.messages.specs.declared.layout.Mandatory.{Mandatory}
 use Rattle.messages.specs.declared.layout.Mandatory.TheVariants.{Nothing, Cause, Activation}
 use Rattle.messages.specs.declared.listed.Form.{Form}
 use Rattle.messages.specs.declared.listed.Form.TheVariants.{Half, Two, Tlv, TlvE, Template}
-use Rattle.messages.specs.declared.listed.Listed.{Listed}
-use Rattle.messages.specs.Layout.{discriminator, head_octets, row_of, kind_of, form_in, optional}
+use Rattle.messages.specs.Layout.{Listed, discriminator, head_octets, row_of, kind_of, form_in, optional}
 
 -- where a TFT's octets stand in the message, and how many they are
 abbrev pub part : ℕ → ℕ → Part
