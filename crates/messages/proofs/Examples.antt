@@ -143,6 +143,7 @@ Examples =
     × (octets_of (fields ModifyRequest (Some (0xC0 ∷ []))) ≡ message (0xC9 ∷ 0x36 ∷ 0x01 ∷ 0xC0 ∷ []))
     -- what stands behind stays
     × (write_of (fields_of ModifyRequest 6 7 None) buffer ≡ record { written = Ok 3; buffer = 0x62 ∷ 0x07 ∷ 0xC9 ∷ 0xEE ∷ 0xEE ∷ [] })
+    × (fields_of ModifyRequest 6 7 (Some (0xC0 ∷ [])) ≡ fields ModifyRequest (Some (0xC0 ∷ [])))
     -- where a TFT stands, also one without octets
     × (read_of (message (0xC9 ∷ 0x81 ∷ 0x36 ∷ 0x01 ∷ 0xC0 ∷ [])) ≡ Ok (record { kind = ModifyRequest; bearer = 6; transaction = 7; tft = Some (part 6 1) }))
     × (read_of (message (0xC9 ∷ 0x36 ∷ 0x00 ∷ [])) ≡ Ok (record { kind = ModifyRequest; bearer = 6; transaction = 7; tft = Some (part 5 0) }))
@@ -192,4 +193,4 @@ Examples =
 -- the lists of a table that is made from its bearers are right by a law; everything else is computed
 pub examples : Examples
 unfolding all_below any_below tab joined pad is_in repeats held empty_place be_from excluded added head_fine split_of rest_fits framed_by framed_of length_of component_of contents_from contents_of coded_of unframed_place earliest filters_place place_of entries_of read_value unplaced read_element filter_fine bearer_fine transactions_apart transaction_from distinct_transactions row_precedences connection_precedences distinct_at distinct_precedences bearers_fine well_formed opens_at is_open closed is_at dropped modify_read modify_named modify_of activate_read activate_named activate_dedicated_of deactivate_of reject_of kind_of form_in elements activation_start read_of said_of writable octets_of write_of request_of accept_of handle_of
-examples = (refl, refl, refl, refl, refl, refl, refl, refl, refl, refl, refl, refl, refl, refl, refl, refl, refl, refl, refl, refl, refl, refl, refl, refl, refl, refl, refl, refl, refl, refl, refl, refl, refl, refl, refl, refl, refl, refl, refl, refl, refl, refl, refl, refl, refl, refl, refl, refl, refl, refl, refl, refl, refl, refl, refl, refl, refl, refl, refl, refl, refl, refl, refl, rw (built_right _) refl, rw (built_right _) refl, rw (built_right _) refl, rw (built_right _) refl, rw (built_right _) refl, rw (built_right _) refl, rw (built_right _) refl, rw (built_right _) refl, rw (built_right _) refl, rw (built_right _) refl, rw (built_right _) refl, rw (built_right _) refl, rw (built_right _) refl, refl)
+examples = (refl, refl, refl, refl, refl, refl, refl, refl, refl, refl, refl, refl, refl, refl, refl, refl, refl, refl, refl, refl, refl, refl, refl, refl, refl, refl, refl, refl, refl, refl, refl, refl, refl, refl, refl, refl, refl, refl, refl, refl, refl, refl, refl, refl, refl, refl, refl, refl, refl, refl, refl, refl, refl, refl, refl, refl, refl, refl, refl, refl, refl, refl, refl, refl, rw (built_right _) refl, rw (built_right _) refl, rw (built_right _) refl, rw (built_right _) refl, rw (built_right _) refl, rw (built_right _) refl, rw (built_right _) refl, rw (built_right _) refl, rw (built_right _) refl, rw (built_right _) refl, rw (built_right _) refl, rw (built_right _) refl, rw (built_right _) refl, refl)
