@@ -1,6 +1,7 @@
 // An element that arrives split. Its length is announced, its octets are fed in portions, and what was fed is read at the finish.
-ghost use Rattle.std.specs.Prelude.{◌≡◌, true, [], ◌≤◌};
+ghost use Rattle.std.specs.Prelude.{◌≡◌, true, [], ◌≤◌, drop};
 ghost use Rattle.std.specs.List.{list_all};
+ghost use Rattle.element.specs.Head.{longest};
 ghost use Rattle.element.specs.Numbers.{portions_number, finish_number};
 ghost use Rattle.element.specs.Portions.{holding, is_zero, sound, takes, announce_of, feed_of, finish_of, PortionsInRange};
 ghost use Rattle.element.specs.Inner.Walk.{read_end};
@@ -76,10 +77,16 @@ fn announced(length: u8) -> Portions
     }
 }
 
-fn are_zero(octets: &[u8]) -> bool
-    ensures { result ≡ list_all is_zero octets.now }
+// By index, and to the end whatever is found: so many octets are compared at once, where `all` takes them one by one.
+fn are_zero(octets: &[u8; LONGEST], from: usize) -> bool
+    requires { from ≤ longest }
+    ensures { result ≡ list_all is_zero (drop from octets.now) }
 {
-    octets.iter().all(|octet| *octet == 0)
+    let mut zero = true;
+    for i in from..LONGEST {
+        zero = zero & (octets[i] == 0);
+    }
+    zero
 }
 
 impl Portions {
@@ -102,7 +109,7 @@ impl Portions {
     pub fn sound(&self) -> bool
         ensures { result ≡ sound self.now }
     {
-        (self.fed <= self.announced) & are_zero(&self.octets[usize::from(self.fed)..])
+        (self.fed <= self.announced) & are_zero(&self.octets, usize::from(self.fed))
     }
 
     // A length of any size, whatever was fed before; after one that is refused the state is the one that announcing 0 gives.
