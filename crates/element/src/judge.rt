@@ -2,7 +2,8 @@
 ghost use Rattle.std.specs.Prelude.{◌≡◌, true, false, ◌≤◌, ◌<◌, length, drop, get_or, set};
 ghost use Rattle.element.specs.Head.{longest};
 ghost use Rattle.element.specs.Framing.{split_of};
-ghost use Rattle.element.specs.Inner.Walk.{first_of, whole, raws_in, judged_row};
+ghost use Rattle.element.specs.Read.{no_filters};
+ghost use Rattle.element.specs.Inner.Walk.{first_of, whole, raws_in, rowed, judged_row};
 
 use crate::answer::{Cause, Refusal};
 use crate::framing::next_filter;
@@ -30,13 +31,12 @@ fn first(found: Option<Refusal>, wrong: bool, refusal: Refusal) -> Option<Refusa
     }
 }
 
-// The n filters of a value, by identifier. Where the list is refused, the place is where the earliest filter begins that is wrong:
-// badly coded, before one that no packet fits, before one that repeats another.
-pub(crate) fn read_filters(value: &[u8], n: u8) -> Result<[Filter; PLACES], Refusal>
-    requires { ((0 < length value.now) × (length value.now ≤ longest)) × (whole (split_of n (drop 1 value.now)) ≡ true) }
-    ensures { result ≡ judged_row (raws_in (split_of n (drop 1 value.now))) }
+// The n filters of a value, laid into the empty row by identifier. Where the list is refused, the place is where the earliest filter begins that is
+// wrong: badly coded, before one that no packet fits, before one that repeats another. What stands in the row then says nothing.
+pub(crate) fn lay_filters(value: &[u8], n: u8, row: &mut [Filter; PLACES]) -> Result<(), Refusal>
+    requires { (((0 < length value.now) × (length value.now ≤ longest)) × (whole (split_of n (drop 1 value.now)) ≡ true)) × (row.old ≡ no_filters) }
+    ensures { rowed result row.new ≡ judged_row (raws_in (split_of n (drop 1 value.now))) }
 {
-    let mut row = [Filter::bare(0, 0); PLACES];
     let mut identifiers = [false; PLACES];
     let mut precedences = [false; PRECEDENCES];
     let mut unfit = None;
@@ -66,6 +66,6 @@ pub(crate) fn read_filters(value: &[u8], n: u8) -> Result<[Filter; PLACES], Refu
     }
     match unfit.or(repeated) {
         Some(refusal) => Err(refusal),
-        None => Ok(row),
+        None => Ok(()),
     }
 }

@@ -7,7 +7,7 @@ ghost use Rattle.element.specs.Inner.Walk.{frame_by, refused_frame, framed_withi
 use crate::answer::{Answer, Cause, Element, Refusal, number, placed_number};
 use crate::framing::{Frame, frame_of, identifier_in};
 use crate::head::LONGEST;
-use crate::judge::read_filters;
+use crate::judge::lay_filters;
 use filter::Filter;
 use filter::component::PLACES;
 
@@ -49,10 +49,13 @@ fn read_sets(
     ensures { record { answer = answered result; filters = filters.new; marks = marks.new } ≡ read_element value.now }
 {
     match frame_within(value)? {
-        Frame::Filters(operation, n) => {
-            *filters = read_filters(value, n)?;
-            Ok(Answer::Filters(operation))
-        }
+        Frame::Filters(operation, n) => match lay_filters(value, n, filters) {
+            Ok(()) => Ok(Answer::Filters(operation)),
+            Err(refusal) => {
+                *filters = [Filter::bare(0, 0); PLACES];
+                Err(refusal)
+            }
+        },
         Frame::Identifiers(n) => {
             mark_all(value, n, marks);
             Ok(Answer::Identifiers)

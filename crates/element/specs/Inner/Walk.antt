@@ -95,6 +95,11 @@ judged_by place badly = Err (refusal Coding place)
 judged_by place (coded es) =
     pick (every entry_fittable es) (pick (twice es) (Err (refusal Coding place)) (Ok (in_places es no_filters))) (Err (refusal Semantics place))
 
+-- what was laid into a row, where nothing was refused
+abbrev pub rowed : Result (Unit {0}) Refusal → List Filter → Result (List Filter) Refusal
+rowed (Ok u) row = Ok row
+rowed (Err r) row = Err r
+
 abbrev pub judged_row : List Raw → Result (List Filter) Refusal
 judged_row rs = judged_by (filters_place rs) (entries_of rs)
 

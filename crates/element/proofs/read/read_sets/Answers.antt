@@ -1,12 +1,13 @@
 -- `element::read::read_sets` meets its contract: by how the value is framed.
 use mathlib.Core.Bool.{Bool}
 use mathlib.Core.List.{List}
-use Rattle.std.proofs.Common.{Result}
+use Rattle.std.proofs.Common.{Result, Ok, Err}
 use Rattle.std.proofs.lemmas.Result.{err_from_is_err_and}
 use Rattle.filter.specs.declared.component.Filter.{Filter}
 use Rattle.element.specs.declared.answer.Refusal.{Refusal}
 use Rattle.element.specs.declared.answer.Answer.{Answer}
 use Rattle.element.specs.declared.answer.Element.{Element}
+use Rattle.element.specs.Read.{no_filters}
 use Rattle.element.specs.Inner.Walk.{answered}
 use Rattle.element.proofs.Judging.{told_unframed, told_filters, told_identifiers, told_bare}
 use Rattle.element.proofs.read.read_sets.Goals as goal
@@ -20,21 +21,21 @@ returns-in_err-operation c =
     let p = err_from_is_err_and c.from_residual.result c.from_residual.ensures.1 in
     rw (p.1, p.2, c.requires.0, c.requires.1) (told_unframed c.args.value.now _ c.in_err-operation.ensures)
 
-pub read_filters-requires : goal.read_filters-requires
-read_filters-requires c =
+pub lay_filters-requires : goal.lay_filters-requires
+lay_filters-requires c =
     let told = told_filters c.args.value.now c.in-Filters.operation c.in-Filters.n (rw c.in-Filters.is at c.in_ok-operation.ensures) in
-    (told.fits, told.whole)
+    ((told.fits, told.whole), c.requires.0)
 
-pub returns-in_err-filters-in-Filters : goal.returns-in_err-filters-in-Filters
-returns-in_err-filters-in-Filters c =
+pub returns-in-Ok : goal.returns-in-Ok
+returns-in-Ok c =
     let told = told_filters c.args.value.now c.in-Filters.operation c.in-Filters.n (rw c.in-Filters.is at c.in_ok-operation.ensures) in
-    let p = err_from_is_err_and c.from_residual-in_err-filters-in-Filters.result c.from_residual-in_err-filters-in-Filters.ensures.1 in
-    rw (p.1, p.2, c.requires.0, c.requires.1) (told.read _ c.in_err-filters-in-Filters.ensures)
+    rw c.requires.1 (told.read (Ok c.lay_filters.new.row) (rw c.in-Ok.is at c.lay_filters.ensures))
 
-pub returns-in_ok-filters-in-Filters : goal.returns-in_ok-filters-in-Filters
-returns-in_ok-filters-in-Filters c =
+pub returns-in-Err : goal.returns-in-Err
+unfolding no_filters
+returns-in-Err c =
     let told = told_filters c.args.value.now c.in-Filters.operation c.in-Filters.n (rw c.in-Filters.is at c.in_ok-operation.ensures) in
-    rw c.requires.1 (told.read _ c.in_ok-filters-in-Filters.ensures)
+    rw (c.requires.1, c.bare-filters.ensures) (told.read (Err c.in-Err.refusal) (rw c.in-Err.is at c.lay_filters.ensures))
 
 pub mark_all-requires : goal.mark_all-requires
 mark_all-requires c = (told_identifiers c.args.value.now c.in-Identifiers.n (rw c.in-Identifiers.is at c.in_ok-operation.ensures)).few

@@ -1,11 +1,11 @@
--- `element::judge::read_filters` meets its contract. The loop's invariant: the filters that are left are all there, and judged after what was found so far they
+-- `element::judge::lay_filters` meets its contract. The loop's invariant: the filters that are left are all there, and judged after what was found so far they
 -- give what all of them give.
 use mathlib.Core.Path.{◌≡◌, refl, sym, ap, ◌∙◌}
 use mathlib.Core.List.{List}
 use Prim.Native.Nat.{ℕ, ◌+◌, ◌-◌, ◌≤◌}
 use native.Mathlib.Omega.{arith}
 use lib.ListN.{length, drop, get_or, set, length-set, length-drop}
-use Rattle.std.proofs.Common.{None, Some, Err}
+use Rattle.std.proofs.Common.{None, Some}
 use Rattle.std.proofs.lemmas.Result.{err_from_is_err_and}
 use Rattle.laws.proofs.Parts.{part_rest, all_drop}
 use Rattle.laws.proofs.Typed.{all_of}
@@ -19,7 +19,7 @@ use Rattle.element.specs.Meaning.{Octet}
 use Rattle.element.specs.Inner.Walk.{refusal, seen, raws_in, judged_row, no_precedences}
 use Rattle.element.proofs.Splitting.{next_long, turn_there, turn_whole, turn_raws, raws_end, raws_narrow}
 use Rattle.element.proofs.Judging.{State, start, after, decided, judge_from, judge_badly, judge_well, judge_end, decided_some, decided_none, row_judged}
-use Rattle.element.proofs.judge.read_filters.Goals as goal
+use Rattle.element.proofs.judge.lay_filters.Goals as goal
 
 -- all the filters are judged as the row says
 all_judged : (s : List ℕ) (n : ℕ) → ((k : ℕ) → Octet (get_or s k 0)) → judge_from start (raws_in (split_of n (drop 1 s))) ≡ judged_row (raws_in (split_of n (drop 1 s)))
@@ -32,13 +32,13 @@ loop-init c =
     let rest = part_rest s 1 in
     let none : c.args.n - 0 ≡ c.args.n = omega arith in
     let long = length-drop 1 s in
-    let some = c.requires.0.0 in
+    let some = c.requires.0.0.0 in
     let first : length s - length (drop 1 s) ≡ 1 = omega arith in
     record {
-      long = (refl, refl, refl);
+      long = (ap length c.requires.1, refl, refl);
       within = rw rest (omega arith);
-      there = rw (rest, none) c.requires.1;
-      judged = rw (rest, c.bare-row.ensures, none, first);
+      there = rw (rest, none) c.requires.0.1;
+      judged = rw (rest, c.requires.1, none, first);
     }
 
 pub unreachable-requires : goal.unreachable-requires
@@ -54,12 +54,11 @@ returns-in_err-filter c =
     let badly : coded_of r ≡ None = sym c.decoded.ensures ∙ c.in_err-filter.ensures.ok_part in
     let p = err_from_is_err_and c.from_residual.result c.from_residual.ensures.1 in
     let told : c.in_err-filter.field-0.0 ≡ refusal Coding st.at = let v = rw c.in_err-filter.ensures.ok_part at c.in_err-filter.ensures.value in cc in
-    p.1
-    ∙ ap Err (p.2 ∙ told)
-    ∙ sym (judge_badly st r _ badly)
+    rw (p.1, p.2 ∙ told) (
+    sym (judge_badly st r _ badly)
     ∙ ap (judge_from st) (sym raws)
     ∙ l.invariant.judged
-    ∙ all_judged c.args.value.now c.args.n (λ k. (c.type_inv.value k).fits)
+    ∙ all_judged c.args.value.now c.args.n (λ k. (c.type_inv.value k).fits))
 
 pub loop-preserved : goal.loop-preserved
 loop-preserved c =

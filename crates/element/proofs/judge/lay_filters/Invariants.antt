@@ -6,7 +6,7 @@ use Rattle.filter.specs.Sizes.{place_count, precedence_count}
 use Rattle.element.specs.Framing.{split_of}
 use Rattle.element.specs.Inner.Walk.{whole, raws_in}
 use Rattle.element.proofs.Judging.{start, judge_from}
-use Rattle.element.proofs.judge.read_filters.Given as goal
+use Rattle.element.proofs.judge.lay_filters.Given as goal
 
 abbrev pub invariant-loop : goal.invariant-loop
 invariant-loop l = record {
