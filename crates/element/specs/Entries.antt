@@ -117,6 +117,16 @@ unfoldable pub left_from : List Located → ℕ → List Handed
 left_from [] at = []
 left_from (p ∷ ps) at = pick (eqb p.at at) (handed_in (p ∷ ps)) (left_from ps at)
 
+-- the reader behind the entry that it is at; where it is at none, as it is
+abbrev pub next_by : Handed → Entries → Entries
+next_by (Filter identifier f) e = advanced_of e
+next_by (Identifier identifier) e = advanced_of e
+next_by (Refused refusal) e = e
+next_by End e = e
+
+abbrev pub next_of : Entries → Entries
+next_of e = next_by (look_at e.value.now e.at) e
+
 abbrev pub entries_left : Entries → List Handed
 entries_left e = left_from (located_of e.value.now) e.at
 

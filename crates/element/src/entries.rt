@@ -1,14 +1,14 @@
 // A reader that holds the element's bytes and hands out the next entry.
 ghost use Rattle.std.specs.Prelude.{◌≡◌, true, ◌+◌, ◌≤◌, ◌<◌, length, take, drop};
-ghost use Rattle.std.specs.Iterator.{YieldsFirstBy, item_count};
+ghost use Rattle.std.specs.Iterator.{MakesProgress, YieldsFirstBy, item_count};
 ghost use Rattle.element.specs.Framing.{split_of};
 ghost use Rattle.element.specs.Numbers.{verdict_on, handed_number};
 ghost use Rattle.element.specs.Read.{read_element};
-ghost use Rattle.element.specs.Entries.{located_identifiers, located_of, nth_of, first_offset, cause_in, located_at, look_at, after_at, after_all, begun, advanced_of, skipped_of, entries_left};
-ghost use Rattle.element.specs.Inner.Walk.{whole, located_split, located_as};
+ghost use Rattle.element.specs.Entries.{located_identifiers, located_of, nth_of, first_offset, cause_in, located_at, look_at, after_at, after_all, begun, advanced_of, skipped_of, next_of, entries_left};
+ghost use Rattle.element.specs.Inner.Walk.{whole, located_split, handed_as, located_as};
 
 use crate::answer::{Answer, Refusal, number};
-use crate::framing::{Frame, frame_of, identifier_in, next_filter};
+use crate::framing::{Frame, RawFilter, frame_of, identifier_in, next_filter};
 use crate::read::read;
 use filter::Filter;
 
@@ -32,14 +32,36 @@ pub fn handed_number(handed: Handed) -> u8
     }
 }
 
+// An entry as it stands in the value.
+#[derive(Clone, Copy)]
+pub enum RawEntry<'a> {
+    Filter(RawFilter<'a>),
+    Identifier(u8),
+}
+
+impl RawEntry<'_> {
+    // A badly coded filter is no entry.
+    fn handed(&self) -> Handed
+        ensures { result ≡ handed_as self.now }
+    {
+        match self {
+            RawEntry::Filter(raw) => match raw.decoded() {
+                Some(filter) => Handed::Filter(raw.identifier(), filter),
+                None => Handed::End,
+            },
+            RawEntry::Identifier(identifier) => Handed::Identifier(*identifier),
+        }
+    }
+}
+
 #[derive(Clone, Copy)]
 pub struct Entries<'a> {
     value: &'a [u8],
     at: usize,
 }
 
-// The one of so many filters that begins at `at`, and the offset after it; a badly coded one is no entry.
-fn filter_at(value: &[u8], count: u8, at: usize) -> Option<(Handed, usize)>
+// The one of so many filters that begins at `at`, and the offset after it.
+fn filter_at(value: &[u8], count: u8, at: usize) -> Option<(RawEntry, usize)>
     requires { (0 < length value.now) × (whole (split_of count (drop 1 value.now)) ≡ true) }
     ensures { located_as at result ≡ located_at (located_split 1 (split_of count (drop 1 value.now))) at }
 {
@@ -49,11 +71,7 @@ fn filter_at(value: &[u8], count: u8, at: usize) -> Option<(Handed, usize)>
             unreachable!();
         };
         if value.len() - rest.len() == at {
-            let entry = match filter.decoded() {
-                Some(f) => Handed::Filter(filter.identifier(), f),
-                None => Handed::End,
-            };
-            return Some((entry, value.len() - after.len()));
+            return Some((RawEntry::Filter(filter), value.len() - after.len()));
         }
         rest = after;
     }
@@ -62,18 +80,18 @@ fn filter_at(value: &[u8], count: u8, at: usize) -> Option<(Handed, usize)>
 
 // The one of n identifiers that is at `at`, each of which is one octet, and the offset after it.
 #[tactic(auto, using(crate::proofs::Offsets::identifier_before, crate::proofs::Offsets::identifier_past_lem, crate::proofs::Offsets::identifier_there))]
-fn identifier_at(value: &[u8], n: u8, at: usize) -> Option<(Handed, usize)>
+fn identifier_at(value: &[u8], n: u8, at: usize) -> Option<(RawEntry, usize)>
     requires { 1 + n ≤ length value.now }
     ensures { located_as at result ≡ located_at (located_identifiers 1 (take n (drop 1 value.now))) at }
 {
     if at < 1 || usize::from(n) < at {
         return None;
     }
-    Some((Handed::Identifier(identifier_in(value[at])), at + 1))
+    Some((RawEntry::Identifier(identifier_in(value[at])), at + 1))
 }
 
 // The entry that begins at `at`, and the offset after it.
-fn entry_at(value: &[u8], at: usize) -> Option<(Handed, usize)>
+fn entry_at(value: &[u8], at: usize) -> Option<(RawEntry, usize)>
     ensures { located_as at result ≡ located_at (located_of value.now) at }
 {
     let Ok(frame) = frame_of(value) else {
@@ -114,7 +132,7 @@ fn look_at(value: &[u8], at: usize) -> Handed
         return cause_of(value);
     }
     match entry_at(value, at) {
-        Some((entry, _)) => entry,
+        Some((entry, _)) => entry.handed(),
         None => Handed::End,
     }
 }
@@ -175,7 +193,7 @@ impl<'a> Entries<'a> {
     }
 }
 
-// The entries that are left. An element that reads as a cause has none: `look` tells the cause.
+// The entries that are left. An element that reads as a cause has none: `look` tells the cause, then as before.
 impl<'a> Iterator for Entries<'a> {
     type Item = Handed;
 
@@ -183,7 +201,11 @@ impl<'a> Iterator for Entries<'a> {
 
     ghost remaining = { item_count entries_left };
 
-    fn next(&mut self) -> Option<Handed> {
+    fn next(&mut self) -> Option<Handed>
+        ensures steps { YieldsFirstBy (λ handed. handed) entries_left self.old result self.new }
+        ensures goes { MakesProgress (λ e. Unit {0}) (item_count entries_left) self.old result self.new }
+        ensures after { self.new ≡ next_of self.old }
+    {
         match self.look() {
             Handed::Filter(identifier, filter) => {
                 *self = self.advanced();

@@ -17,12 +17,14 @@ use Rattle.element.specs.declared.framing.Frame.{Frame}
 use Rattle.element.specs.declared.framing.Frame.TheVariants.{Filters as FiltersFrame, Identifiers as IdentifiersFrame, Bare as BareFrame}
 use Rattle.element.specs.Read.{no_filters, entry_fittable, Entries, badly, coded, entries_of, twice, in_places}
 use Rattle.element.specs.Head.{longest}
-use Rattle.element.specs.Contents.{length_of, known, component_of}
-use Rattle.element.specs.Framing.{Raw, Split, cut, split, Framed, not_framed, filters, identifiers, bare, framed_of}
+use Rattle.element.specs.Contents.{length_of, known, component_of, coded_of}
+use Rattle.element.specs.Framing.{Raw, identifier_of, Split, cut, split, Framed, not_framed, filters, identifiers, bare, framed_of}
 use Rattle.element.specs.Places.{unframed_place, filters_place}
 use Rattle.element.specs.declared.entries.Handed.{Handed}
-use Rattle.element.specs.declared.entries.Handed.TheVariants.{End}
-use Rattle.element.specs.Entries.{Located, located_filters}
+use Rattle.element.specs.declared.entries.Handed.TheVariants.{Identifier, End}
+use Rattle.element.specs.declared.entries.RawEntry.{RawEntry}
+use Rattle.element.specs.declared.entries.RawEntry.TheVariants.{Filter as FilterEntry, Identifier as IdentifierEntry}
+use Rattle.element.specs.Entries.{Located, located_filters, coded_filter}
 use Rattle.element.specs.Write.{entry_octets}
 use Rattle.std.proofs.lemmas.List.Edits.{sets}
 
@@ -71,10 +73,15 @@ abbrev pub located_split : ℕ → Split → List Located
 located_split at cut = []
 located_split at (split rs rest) = located_filters at rs
 
+-- what an entry of the value is handed out as
+abbrev pub handed_as : RawEntry → Handed
+handed_as (FilterEntry r) = coded_filter (identifier_of (seen r)) (coded_of (seen r))
+handed_as (IdentifierEntry identifier) = Identifier identifier
+
 -- an entry and the offset after it, found at an offset
-abbrev pub located_as : ℕ → Option (Handed × ℕ) → Located
+abbrev pub located_as : ℕ → Option (RawEntry × ℕ) → Located
 located_as at None = record { at = at; after = at; entry = End }
-located_as at (Some x) = record { at = at; after = x.1; entry = x.0 }
+located_as at (Some x) = record { at = at; after = x.1; entry = handed_as x.0 }
 
 -- ---- the filters of a value
 abbrev pub raws_in : Split → List Raw

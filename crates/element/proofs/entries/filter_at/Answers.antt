@@ -1,16 +1,13 @@
 -- `element::entries::filter_at` meets its contract. The loop's invariant: what is found among the filters that are left is what is found among all.
-use mathlib.Core.Path.{◌≡◌, sym, ◌∙◌}
+use mathlib.Core.Path.{◌≡◌, refl, sym, ◌∙◌}
 use Prim.Native.Nat.{ℕ, ◌+◌, ◌-◌}
 use native.Mathlib.Omega.{arith}
 use lib.ListN.{length}
-use Rattle.element.specs.Framing.{Raw, Split, identifier_of, split_of}
-use Rattle.element.specs.Contents.{coded_of}
-use Rattle.element.specs.Entries.{coded_filter}
+use Rattle.element.specs.Framing.{Raw, Split, split_of}
 use Rattle.element.specs.Inner.Walk.{seen}
 use Rattle.element.proofs.Splitting.{next_long, turn, turn_there, turn_whole}
 use Rattle.element.proofs.Offsets.{filter_here, filter_later, filter_found, filters_none}
 use Rattle.element.proofs.entries.filter_at.Goals as goal
-use Rattle.element.proofs.entries.filter_at.Goals.{in-Some-decoded, in-None}
 
 pub unreachable-requires : goal.unreachable-requires
 unreachable-requires c = turn_there c.args.count c.loop.counter c.loop-test.true c.loop.rest.now c.loop.invariant.1 (c.in_default.ensures {u = tt})
@@ -25,12 +22,7 @@ returns-then-value-rest c =
     let whole = turn_whole c.args.count l.counter c.loop-test.true l.rest.now l.invariant.1 _ next in
     let long = next_long l.rest.now _ next in
     let within = l.invariant.0 in
-    let entry : c.match-decoded.entry ≡ coded_filter (identifier_of r) (coded_of r) =
-    elim c.match-decoded.branch [
-      | in-Some-decoded w ↦ rw (w.entry-is, w.identifier.ensures) (rw (← c.decoded.ensures, w.in-Some-decoded.is))
-      | in-None w ↦ rw w.entry-is (rw (← c.decoded.ensures, w.in-None.is))
-    ] in
-    filter_found from c.args.at _ _ r c.if-value-rest.true (omega arith) entry
+    filter_found from c.args.at _ _ r c.if-value-rest.true (omega arith) refl
     ∙ sym (filter_here from c.args.at r q whole c.if-value-rest.true)
     ∙ rw (turn c.args.count l.counter c.loop-test.true l.rest.now _ next) at l.invariant.2
 
