@@ -1,5 +1,5 @@
 // The words of a line, and what they are read as.
-ghost use Rattle.std.specs.Prelude.{◌<◌, ◌≤◌, length, OnSome};
+ghost use Rattle.std.specs.Prelude.{◌<◌, ◌≤◌, length, IfSome, OnSome};
 
 use crate::error::BadLine;
 use filter::Address;
@@ -73,16 +73,31 @@ where
     }
 }
 
+// A hexadecimal digit, in either case.
+fn digit(octet: u8) -> Option<u8>
+    ensures { IfSome result (λ value. value < 16) }
+{
+    match octet {
+        b'0'..=b'9' => Some(octet - b'0'),
+        b'a'..=b'f' => Some(octet - b'a' + 10),
+        b'A'..=b'F' => Some(octet - b'A' + 10),
+        _ => None,
+    }
+}
+
 // An even number of hexadecimal digits, or `-` for no octets. The octets are put at the start of `room`.
 pub(crate) fn decode<'r>(word: &[u8], room: &'r mut [u8]) -> Result<&'r [u8], BadLine> {
     if let b"-" = word {
         return Ok(&[]);
     }
     let octets = room.get_mut(..word.len() / 2).ok_or(BadLine)?;
-    match hex::decode_to_slice(word, octets) {
-        Ok(()) => Ok(octets),
-        Err(_) => Err(BadLine),
+    let (pairs, []) = word.as_chunks::<2>() else {
+        return Err(BadLine);
+    };
+    for (octet, [high, low]) in octets.iter_mut().zip(pairs) {
+        *octet = digit(*high).ok_or(BadLine)? * 16 + digit(*low).ok_or(BadLine)?;
     }
+    Ok(octets)
 }
 
 // Four numbers of at most 255.
