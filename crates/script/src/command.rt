@@ -167,6 +167,14 @@ fn read_entry(words: &mut Words<'_>) -> Result<Hand, BadLine> {
     })
 }
 
+// A filter is for an operation that is being composed.
+fn read_filter(words: &mut Words<'_>, times: usize, composing: bool) -> Result<Part, BadLine> {
+    if !composing {
+        return Err(BadLine);
+    }
+    Ok(Part::Filter(Placed::read(words, times)?))
+}
+
 fn read_assembly<'a>(words: &mut Words<'_>, octets: &'a mut [u8]) -> Result<Assembly<'a>, BadLine> {
     let assembly = Assembly {
         kind: MessageKind::from_word(words.word()?)?,
@@ -184,7 +192,12 @@ fn read_assembly<'a>(words: &mut Words<'_>, octets: &'a mut [u8]) -> Result<Asse
 
 // The lines are taken apart in three functions, each handing on what it does not know: in one they are too many for the check.
 impl<'a> Command<'a> {
-    fn read(words: &mut Words<'_>, octets: &'a mut [u8]) -> Result<Command<'a>, BadLine> {
+    fn read(
+        words: &mut Words<'_>,
+        times: usize,
+        composing: bool,
+        octets: &'a mut [u8],
+    ) -> Result<Command<'a>, BadLine> {
         Ok(Command::Call(match words.word()? {
             b"default" => Call::Default {
                 bearer: words.number()?,
@@ -212,13 +225,15 @@ impl<'a> Command<'a> {
                 transaction: words.number()?,
                 cause: words.number()?,
             },
-            other => return Command::read_change(other, words, octets),
+            other => return Command::read_change(other, words, times, composing, octets),
         }))
     }
 
     fn read_change(
         word: &[u8],
         words: &mut Words<'_>,
+        times: usize,
+        composing: bool,
         octets: &'a mut [u8],
     ) -> Result<Command<'a>, BadLine> {
         Ok(match word {
@@ -231,11 +246,11 @@ impl<'a> Command<'a> {
             }),
             b"place" => Command::Hand(Hand::Place {
                 bearer: words.identity()?,
-                placed: Placed::read(words)?,
+                placed: Placed::read(words, times)?,
             }),
             b"force-entry" => Command::Hand(read_entry(words)?),
             b"compose" => Command::Compose(Part::Kind(OperationKind::from_word(words.word()?)?)),
-            b"filter" => Command::Compose(Part::Filter(Placed::read(words)?)),
+            b"filter" => Command::Compose(read_filter(words, times, composing)?),
             b"identifier" => Command::Compose(Part::Identifier(words.at_most()?)),
             b"announce" => Command::Feed(Feeding::Announce(words.number()?)),
             b"portion" => Command::Feed(Feeding::Portion(words.hex(octets)?)),
@@ -285,7 +300,11 @@ impl<'a> Question<'a> {
 }
 
 // What a line asks for; nothing where it is empty or a comment. The octets of its HEX are put into `octets`.
-pub fn parse<'a>(line: &[u8], octets: &'a mut [u8]) -> Result<Option<Asked<'a>>, BadLine> {
+pub fn parse<'a>(
+    line: &[u8],
+    composing: bool,
+    octets: &'a mut [u8],
+) -> Result<Option<Asked<'a>>, BadLine> {
     if line.len() > LONGEST_LINE {
         return Err(BadLine);
     }
@@ -302,7 +321,7 @@ pub fn parse<'a>(line: &[u8], octets: &'a mut [u8]) -> Result<Option<Asked<'a>>,
     if times == 0 {
         return Err(BadLine);
     }
-    let command = Command::read(&mut words, octets)?;
+    let command = Command::read(&mut words, times, composing, octets)?;
     words.end()?;
     Ok(Some(Asked { command, times }))
 }

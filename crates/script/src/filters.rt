@@ -20,16 +20,29 @@ pub struct Placed {
 }
 
 impl Placed {
-    pub(crate) fn read(words: &mut Words<'_>) -> Result<Placed, BadLine> {
+    // The filter is built as often as the line is to be done.
+    pub(crate) fn read(words: &mut Words<'_>, times: usize) -> Result<Placed, BadLine> {
         let place = words.at_most()?;
-        let mut filter = Filter::bare(words.number()?, words.number()?);
-        let mut octets = [0; LONGEST_COMPONENT];
-        while let Some(word) = words.next() {
-            let component = component_type(word)?;
-            filter = with_component(filter, component, words.hex(&mut octets)?)?;
+        let bare = Filter::bare(words.number()?, words.number()?);
+        let components = *words;
+        let mut filter = built(bare, words)?;
+        for _ in 1..times {
+            let mut again = components;
+            filter = built(bare, &mut again)?;
         }
         Ok(Placed { place, filter })
     }
+}
+
+// With a component more for every two words that are left.
+fn built(bare: Filter, words: &mut Words<'_>) -> Result<Filter, BadLine> {
+    let mut filter = bare;
+    let mut octets = [0; LONGEST_COMPONENT];
+    while let Some(word) = words.next() {
+        let component = component_type(word)?;
+        filter = with_component(filter, component, words.hex(&mut octets)?)?;
+    }
+    Ok(filter)
 }
 
 fn component_type(word: &[u8]) -> Result<u8, BadLine> {

@@ -67,8 +67,9 @@ where
 {
     let mut space = [UNWRITTEN; LARGEST_ROOM];
     let buffer = &mut space[..room.value];
-    let mut written = write(buffer);
-    for _ in 1..times {
+    let mut written = Ok(0);
+    // `times` is at least 1
+    for _ in 0..times {
         buffer.fill(UNWRITTEN);
         written = write(buffer);
     }
@@ -114,7 +115,8 @@ impl Bench {
             out.write_all(line)?;
             out.write_all(b"\n")?;
         }
-        let Some(Asked { command, times }) = command::parse(line, octets)? else {
+        let Some(Asked { command, times }) = command::parse(line, self.operation.is_some(), octets)?
+        else {
             return Ok(());
         };
         match command {
@@ -370,8 +372,11 @@ impl Bench {
             }
             Question::Rewrite { value, room } => {
                 let value = octets_of(value, &self.portions);
-                let element = read(value);
+                let mut element = read(value);
                 if let Answer::Refused(_) = element.answer {
+                    for _ in 1..times {
+                        element = read(value);
+                    }
                     write!(out, "{}", ElementLines(&element))?;
                     return Ok(());
                 }
