@@ -6,7 +6,7 @@ use Prim.Native.Nat.{ℕ, zero, suc, ◌%◌, ◌≤◌, ◌<◌}
 use native.Mathlib.Omega.{arith}
 use lib.Bits.{bit_and, bit_or}
 use lib.Dec.{eqb}
-use lib.ListN.{length, get_or, replicate, length-set}
+use lib.ListN.{length, get_or, replicate, get_or-eq_default, length-set}
 use lib.Seq.{set_out}
 use borrow.Author.Tests.{eqb-true, eqb-false, ne_eqb}
 use Rattle.laws.specs.Says.{pick, Says}
@@ -22,10 +22,15 @@ use Rattle.calls.specs.Checks.{Active}
 use Rattle.status.specs.Value.{status_octets, octet_of, bit_of, shown_active, showing}
 use Rattle.status.specs.Write.{showing_at, status_of}
 
--- an identity beyond the value's octets cannot be shown
-pub unshown_past : (value : List ℕ) (identity : ℕ) → length value ≤ octet_of identity → showing value identity ≡ value
-unfolding showing
-unshown_past value identity past = set_out value (octet_of identity) _ past
+-- an identity beyond the value's octets is not shown, and cannot be
+module _ (value : List ℕ) (identity : ℕ) (past : length value ≤ octet_of identity) where
+  pub unseen_past : shown_active value identity ≡ false
+  unfolding shown_active
+  unseen_past = ap (λ (v : ℕ). not (eqb (bit_and v (bit_of identity)) 0)) (get_or-eq_default value 0 past)
+
+  pub unshown_past : showing value identity ≡ value
+  unfolding showing
+  unshown_past = set_out value (octet_of identity) _ past
 
 -- where n is shown, it is shown as well, and every other identity as before
 pub shown_more : (value : List ℕ) (n m : ℕ) → octet_of n < length value → shown_active (showing value n) m ≡ shown_active value m || eqb n m

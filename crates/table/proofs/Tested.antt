@@ -42,7 +42,7 @@ module _ (t : Table) where
   regroup true false false d f = refl
   regroup false s n d f = refl
 
-  all_tested : TableInRange t → ((told && not (marks_at t bearer_count).again) && distinct_transactions t) && few ≡ well_formed t
+  pub all_tested : TableInRange t → ((told && not (marks_at t bearer_count).again) && distinct_transactions t) && few ≡ well_formed t
   unfolding well_formed
   all_tested ok =
       rw told_split
