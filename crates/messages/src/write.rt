@@ -1,7 +1,7 @@
 // The writer.
-ghost use Rattle.std.specs.Prelude.{◌≡◌, ◌≤◌, length, option_copied};
+ghost use Rattle.std.specs.Prelude.{◌≡◌, ◌≤◌, ◌++◌, length, option_copied};
 ghost use Rattle.messages.specs.Write.{largest_identity, carried_fine, tft_fine, longest_tft, writable_by, value_of, front_of, unwritten_number, message_number, write_of, fields_of};
-ghost use Rattle.messages.specs.Inner.Walk.{padded};
+ghost use Rattle.messages.specs.Inner.Walk.{put_of, padded};
 
 use crate::layout::{Carries, DISCRIMINATOR, Kind, Mandatory, TFT_IDENTIFIER};
 
@@ -83,16 +83,34 @@ fn is_writable(fields: Fields) -> bool
     ensures { result ≡ writable_by fields.entry.kind fields.entry.bearer (option_copied fields.entry.tft) }
 {
     let row = fields.kind.row();
-    fields.bearer <= LARGEST_IDENTITY
-        && carried_fine(row.mandatory, fields.kind.carried())
-        && tft_fine(row.tft, fields.tft)
+    // `&`, since no test costs more than a branch.
+    (fields.bearer <= LARGEST_IDENTITY)
+        & carried_fine(row.mandatory, fields.kind.carried())
+        & tft_fine(row.tft, fields.tft)
 }
 
-// The octets before the TFT's value.
-#[tactic(auto, unfolding(laws::specs::Index::pad))]
-pub(crate) fn front_of(fields: Fields) -> Front
+// The front and the value behind it, where the buffer has room for both.
+fn put_parts(front: &[u8], value: &[u8], buffer: &mut [u8]) -> Result<usize, MessageUnwritten>
+    ensures { (result ≡ (put_of (front.now ++ value.now) buffer.old).written)
+        × (buffer.new ≡ (put_of (front.now ++ value.now) buffer.old).buffer) }
+{
+    let end = front.len() + value.len();
+    if buffer.len() < end {
+        return Err(MessageUnwritten::NoRoom);
+    }
+    buffer[..front.len()].copy_from_slice(front);
+    if !value.is_empty() {
+        buffer[front.len()..end].copy_from_slice(value);
+    }
+    Ok(end)
+}
+
+// The octets before the TFT's value, and this value behind them. Each arm puts its own: a front whose length is known is stored octet by octet, one of any
+// length is copied by a call.
+fn put_fields(fields: Fields, value: &[u8], buffer: &mut [u8]) -> Result<usize, MessageUnwritten>
     requires { (fields.bearer ≤ largest_identity) × (length (value_of (option_copied fields.tft)) ≤ longest_tft) }
-    ensures { result ≡ padded (front_of (fields_of fields.entry.kind fields.entry.bearer fields.entry.transaction (option_copied fields.entry.tft))) }
+    ensures { (result ≡ (put_of (front_of (fields_of fields.entry.kind fields.entry.bearer fields.entry.transaction (option_copied fields.entry.tft)) ++ value.now) buffer.old).written)
+        × (buffer.new ≡ (put_of (front_of (fields_of fields.entry.kind fields.entry.bearer fields.entry.transaction (option_copied fields.entry.tft)) ++ value.now) buffer.old).buffer) }
 {
     let Fields {
         kind,
@@ -104,29 +122,19 @@ pub(crate) fn front_of(fields: Fields) -> Front
     let head = bearer * 16 + DISCRIMINATOR;
     let octet = row.octet;
     match (row.mandatory, tft) {
-        (Mandatory::Nothing, None) => Front {
-            count: 3,
-            octets: [head, transaction, octet, 0, 0, 0, 0],
-        },
-        (Mandatory::Nothing, Some(value)) => Front {
-            count: 5,
-            octets: [
-                head,
-                transaction,
-                octet,
-                TFT_IDENTIFIER,
-                value.len() as u8,
-                0,
-                0,
-            ],
-        },
-        (Mandatory::Cause, _) => Front {
-            count: 4,
-            octets: [head, transaction, octet, kind.carried(), 0, 0, 0],
-        },
-        (Mandatory::Activation, tft) => Front {
-            count: 7,
-            octets: [
+        (Mandatory::Nothing, None) => put_parts(&[head, transaction, octet], value, buffer),
+        (Mandatory::Nothing, Some(tft)) => put_parts(
+            &[head, transaction, octet, TFT_IDENTIFIER, tft.len() as u8],
+            value,
+            buffer,
+        ),
+        (Mandatory::Cause, _) => put_parts(
+            &[head, transaction, octet, kind.carried()],
+            value,
+            buffer,
+        ),
+        (Mandatory::Activation, tft) => put_parts(
+            &[
                 head,
                 transaction,
                 octet,
@@ -135,11 +143,23 @@ pub(crate) fn front_of(fields: Fields) -> Front
                 QOS,
                 tft.unwrap_or(&[]).len() as u8,
             ],
-        },
+            value,
+            buffer,
+        ),
     }
 }
 
-#[tactic(auto, using(crate::proofs::Putting::bearer_fits, crate::proofs::Putting::front_few, crate::proofs::Putting::octets_long, crate::proofs::Putting::tft_short, crate::proofs::Putting::write_fit, crate::proofs::Putting::write_short, crate::proofs::Putting::write_unreadable), unfolding(crate::specs::Write::writable))]
+// The octets before the TFT's value.
+pub(crate) fn front_of(fields: Fields) -> Front
+    requires { (fields.bearer ≤ largest_identity) × (length (value_of (option_copied fields.tft)) ≤ longest_tft) }
+    ensures { result ≡ padded (front_of (fields_of fields.entry.kind fields.entry.bearer fields.entry.transaction (option_copied fields.entry.tft))) }
+{
+    let mut octets = [0; FRONT_OCTETS];
+    let count = put_fields(fields, &[], &mut octets).unwrap_or(0);
+    Front { count, octets }
+}
+
+#[tactic(auto, using(crate::proofs::Putting::bearer_fits, crate::proofs::Putting::tft_short, crate::proofs::Putting::write_put, crate::proofs::Putting::write_unreadable), unfolding(crate::specs::Write::writable))]
 pub fn write_message(
     kind: Kind,
     bearer: u8,
@@ -159,13 +179,5 @@ pub fn write_message(
     if !is_writable(fields) {
         return Err(MessageUnwritten::Unreadable);
     }
-    let front = front_of(fields);
-    let value = tft.unwrap_or(&[]);
-    let end = front.count + value.len();
-    if buffer.len() < end {
-        return Err(MessageUnwritten::NoRoom);
-    }
-    buffer[..front.count].copy_from_slice(&front.octets[..front.count]);
-    buffer[front.count..end].copy_from_slice(value);
-    Ok(end)
+    put_fields(fields, tft.unwrap_or(&[]), buffer)
 }

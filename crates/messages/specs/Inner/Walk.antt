@@ -10,6 +10,8 @@ use Rattle.messages.specs.declared.listed.Form.{Form}
 use Rattle.messages.specs.declared.read.Reached.{Reached}
 use Rattle.messages.specs.declared.write.Front.{Front}
 use Rattle.messages.specs.Layout.{form_in, optional}
+use Rattle.messages.specs.declared.write.MessageUnwritten.TheVariants.{NoRoom}
+use Rattle.messages.specs.Write.{MessageOutcome, leaves, wrote}
 use Rattle.messages.specs.Read.{reached, ◌>>=◌, tail_of, is_barred, with_element}
 
 -- one element, by its form and the octets after its identifier
@@ -21,6 +23,10 @@ step_by listed at xs tft =
 
 unfoldable pub step_at : Kind → List ℕ → ℕ → Option Part → Result Reached Fault
 step_at kind s at tft = step_by (form_in (optional kind) (get_or s at 0)) at (drop (at + 1) s) tft
+
+-- octets put at the front of a buffer, where there is room
+abbrev pub put_of : List ℕ → List ℕ → MessageOutcome
+put_of xs buffer = pick (leb (length xs) (length buffer)) (wrote xs buffer) (leaves NoRoom buffer)
 
 abbrev pub front_octets : ℕ
 front_octets = 7
