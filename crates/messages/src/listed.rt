@@ -16,30 +16,72 @@ pub enum Form {
     Template,
 }
 
-// How the element that begins with this octet is framed, where a message of this kind lists it.
+// How the element that begins with this octet is framed, where a message of this kind lists it. An arm for each octet: the match is then one jump, where
+// octets that `|` joins are tested apart from the others.
 #[tactic(auto, unfolding(crate::specs::Layout::form_in))]
 pub(crate) fn form_of(kind: Kind, octet: u8) -> Option<Form>
     ensures { result ≡ form_in (optional kind) octet }
 {
-    match (kind, octet) {
-        (Kind::ModifyRequest, TFT_IDENTIFIER) => Some(Template),
-        (Kind::DedicatedRequest(_), 0x5D | 0x30 | 0x34 | 0x27 | 0x33)
-        | (Kind::ModifyRequest, 0x5B | 0x30 | 0x34 | 0x5E | 0x27 | 0x33 | 0x66)
-        | (Kind::DeactivateRequest(_), 0x27 | 0x37 | 0x33)
-        | (Kind::DeactivateAccept, 0x27)
-        | (Kind::ModificationReject(_), 0x27 | 0x37 | 0x6B | 0x33)
-        | (
-            Kind::DedicatedAccept
-            | Kind::DedicatedReject(_)
-            | Kind::ModifyAccept
-            | Kind::ModifyReject(_),
-            0x27 | 0x33,
-        ) => Some(Tlv),
-        (Kind::DedicatedRequest(_) | Kind::ModifyRequest, 0x32) => Some(Two),
-        (_, 0x7B) => Some(TlvE),
-        _ => match (kind, octet / 16) {
-            (Kind::DedicatedRequest(_) | Kind::ModifyRequest, 0x8 | 0xC)
-            | (Kind::DeactivateRequest(_), 0xC) => Some(Half),
+    match kind {
+        Kind::DedicatedRequest(_) => match octet {
+            0x5D => Some(Tlv),
+            0x30 => Some(Tlv),
+            0x34 => Some(Tlv),
+            0x27 => Some(Tlv),
+            0x33 => Some(Tlv),
+            0x32 => Some(Two),
+            0x7B => Some(TlvE),
+            _ => match octet / 16 {
+                0x8 | 0xC => Some(Half),
+                _ => None,
+            },
+        },
+        Kind::ModifyRequest => match octet {
+            TFT_IDENTIFIER => Some(Template),
+            0x5B => Some(Tlv),
+            0x30 => Some(Tlv),
+            0x34 => Some(Tlv),
+            0x5E => Some(Tlv),
+            0x27 => Some(Tlv),
+            0x33 => Some(Tlv),
+            0x66 => Some(Tlv),
+            0x32 => Some(Two),
+            0x7B => Some(TlvE),
+            _ => match octet / 16 {
+                0x8 | 0xC => Some(Half),
+                _ => None,
+            },
+        },
+        Kind::DeactivateRequest(_) => match octet {
+            0x27 => Some(Tlv),
+            0x37 => Some(Tlv),
+            0x33 => Some(Tlv),
+            0x7B => Some(TlvE),
+            _ => match octet / 16 {
+                0xC => Some(Half),
+                _ => None,
+            },
+        },
+        Kind::DeactivateAccept => match octet {
+            0x27 => Some(Tlv),
+            0x7B => Some(TlvE),
+            _ => None,
+        },
+        Kind::ModificationReject(_) => match octet {
+            0x27 => Some(Tlv),
+            0x37 => Some(Tlv),
+            0x6B => Some(Tlv),
+            0x33 => Some(Tlv),
+            0x7B => Some(TlvE),
+            _ => None,
+        },
+        Kind::DedicatedAccept
+        | Kind::DedicatedReject(_)
+        | Kind::ModifyAccept
+        | Kind::ModifyReject(_) => match octet {
+            0x27 => Some(Tlv),
+            0x33 => Some(Tlv),
+            0x7B => Some(TlvE),
             _ => None,
         },
     }
