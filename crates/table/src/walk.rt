@@ -75,6 +75,8 @@ fn row_uplinks(
     Some(uplinks)
 }
 
+// Never inlined: in the walk the row's address has no register, and is fetched anew for each test.
+#[inline(never)]
 fn holds_nothing(row: &[Filter; PLACES]) -> bool
     ensures { result ≡ list_all empty_place row.now }
 {
