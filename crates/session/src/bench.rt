@@ -365,24 +365,8 @@ impl Bench {
                 let table = &self.table;
                 write!(out, "{}", ListLines { table, identity })?;
             }
-            Question::Element(value) => {
-                let value = octets_of(value, &self.portions);
-                let element = last_of(times, || read(value));
-                write!(out, "{}", ElementLines(&element))?;
-            }
-            Question::Rewrite { value, room } => {
-                let value = octets_of(value, &self.portions);
-                let mut element = read(value);
-                if let Answer::Refused(_) = element.answer {
-                    for _ in 1..times {
-                        element = read(value);
-                    }
-                    write!(out, "{}", ElementLines(&element))?;
-                    return Ok(());
-                }
-                let write = |buffer: &mut [u8]| element::write::write(&read(value), buffer);
-                put_written(room, times, write, out)?;
-            }
+            Question::Element(value) => self.element(value, times, out)?,
+            Question::Rewrite { value, room } => self.rewrite(value, room, times, out)?,
             Question::Emit(room) => {
                 let operation = self.operation.as_ref().ok_or(BadLine)?;
                 let write = |buffer: &mut [u8]| element::write::write(operation, buffer);
@@ -414,6 +398,38 @@ impl Bench {
             }
         }
         Ok(())
+    }
+
+    // Never inlined: each line that `ask` answers would clear the room for the element.
+    #[inline(never)]
+    fn element<W: Write>(
+        &self,
+        value: Value<'_>,
+        times: usize,
+        out: &mut W,
+    ) -> Result<(), LineError> {
+        let value = octets_of(value, &self.portions);
+        for _ in 1..times {
+            read(value);
+        }
+        Ok(write!(out, "{}", ElementLines(&read(value)))?)
+    }
+
+    // Never inlined, as `element`.
+    #[inline(never)]
+    fn rewrite<W: Write>(
+        &self,
+        value: Value<'_>,
+        room: Room,
+        times: usize,
+        out: &mut W,
+    ) -> Result<(), LineError> {
+        let octets = octets_of(value, &self.portions);
+        if let Answer::Refused(_) = read(octets).answer {
+            return self.element(value, times, out);
+        }
+        let write = |buffer: &mut [u8]| element::write::write(&read(octets), buffer);
+        put_written(room, times, write, out)
     }
 
     // Never inlined: of a test that changes nothing and is seen through, a compiler leaves one of a million.
